@@ -1,0 +1,4 @@
+//! The chips' facts as tables.
+#![tactic(auto)]
+
+pub mod target;

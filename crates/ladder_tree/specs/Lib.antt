@@ -1,0 +1,3 @@
+pub mod Induct
+pub mod Leaves
+pub mod Names

@@ -1,0 +1,6 @@
+//! A ladder project as a tree, and its names in order.
+#![tactic(auto)]
+
+pub mod element;
+pub mod names;
+pub mod project;
