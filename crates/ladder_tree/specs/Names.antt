@@ -1,6 +1,6 @@
 -- The names of a project: each list holds the names of a kind by first appearance.
-use Rattle.std.specs.Prelude.{ℕ, ◌+◌, Bool, true, false, ◌||◌, List, [], ◌∷◌, ◌++◌, nat_eq, slice_index_or, filter, if◌then◌else◌}
-use Rattle.std.specs.List.{list_any}
+use Rattle.std.specs.Prelude.{ℕ, ◌+◌, Bool, true, false, not, ◌&&◌, ◌||◌, ◌==◌, List, [], ◌∷◌, ◌++◌, length, nat_eq, nat_le, slice_index_or, filter, if◌then◌else◌}
+use Rattle.std.specs.List.{list_any, list_all}
 use Rattle.std.specs.Str.{bytes_eq}
 use Rattle.ladder_tree.specs.declared.element.Leaf as leaf
 use Rattle.ladder_tree.specs.declared.element.LeafKind.{LeafKind}
@@ -21,6 +21,25 @@ is_output name = begins_with 89 name
 
 abbrev pub is_relay : List ℕ → Bool
 is_relay name = begins_with 82 name
+
+abbrev pub is_letter : ℕ → Bool
+is_letter b = (nat_le 65 b && nat_le b 90) || (nat_le 97 b && nat_le b 122)
+
+abbrev pub is_digit : ℕ → Bool
+is_digit b = nat_le 48 b && nat_le b 57
+
+-- 95 is _
+abbrev pub is_name_byte : ℕ → Bool
+is_name_byte b = is_letter b || (is_digit b || b == 95)
+
+-- 1 to so many letters, digits or _, not beginning with a digit
+abbrev pub is_name_within : ℕ → List ℕ → Bool
+is_name_within most [] = false
+is_name_within most (b ∷ bs) = not (is_digit b) && (list_all is_name_byte (b ∷ bs) && nat_le (length (b ∷ bs)) most)
+
+-- a name of a project
+abbrev pub is_name : List ℕ → Bool
+is_name name = is_name_within 64 name
 
 -- the bit that an element names
 abbrev pub bit_names : LeafKind → List (List ℕ)
@@ -74,3 +93,10 @@ abbrev pub has_kind : LeafKind → Bool
 has_kind (Contacts name neg) = is_input name || (is_output name || is_relay name)
 has_kind (Coil name mode) = is_output name || is_relay name
 has_kind _ = true
+
+-- Each bit that elements name is a name, and of its element's kind.
+abbrev pub is_well_named : LeafKind → Bool
+is_well_named k = has_kind k && list_all is_name (bit_names k)
+
+abbrev pub all_well_named : List leaf.Leaf → Bool
+all_well_named ls = list_all (λ l. is_well_named l.kind) ls

@@ -1,0 +1,4 @@
+//! Flat operations over numbered bits, and what they do.
+#![tactic(auto)]
+
+pub mod op;
