@@ -1,0 +1,3 @@
+pub mod SkipLemmas
+pub mod NestLemmas
+pub mod CountLemmas

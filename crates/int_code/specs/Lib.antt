@@ -1,3 +1,6 @@
 pub mod Meaning
 pub mod WellFormed
 pub mod Caps
+pub mod Text
+pub mod Held
+pub mod Stands

@@ -1,4 +1,7 @@
 //! Flat operations over numbered bits, and what they do.
 #![tactic(auto)]
 
+pub mod cycle;
+pub mod laws;
 pub mod op;
+pub mod text;
