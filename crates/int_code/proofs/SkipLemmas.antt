@@ -1,13 +1,11 @@
 -- A branch that does not run.
-use Rattle.std.proofs.Common.{◌≡◌, ℕ, zero, suc, ◌+◌, Bool, true, false, ◌&&◌, cond, List, [], ◌∷◌, refl, sym, ap, ◌∙◌, arith, add-one, ◌≤◌, length}
-use Rattle.std.proofs.Math.Bool.{and-false}
+use Rattle.std.proofs.Common.{◌≡◌, ℕ, zero, suc, Bool, true, false, List, [], ◌∷◌, refl, add-one}
 use Rattle.int_code.specs.declared.op.IntOp.{IntOp}
 use Rattle.int_code.specs.declared.op.IntOp.TheVariants.{Set, Clr, Cpy, Not, Ifs, Ifc, Els, Fi}
-use Rattle.int_code.specs.declared.cycle.Progress.{Progress}
 use Rattle.ladder_meaning.specs.declared.reading.Reading.{Reading}
-use Rattle.int_code.specs.Meaning.{Bits, Moment, all_run, step, run, is_reached}
+use Rattle.int_code.specs.Meaning.{Bits, all_run, step}
 use Rattle.int_code.specs.Held.{SameBits, bits_of}
-use Rattle.int_code.specs.Stands.{Stands, IsOff, IsMode, IsOpenFor, skipped, skipped_at}
+use Rattle.int_code.specs.Stands.{Stands, IsOff, IsOpenFor, skipped_at}
 
 off_stops : (depth : ℕ) (ifs : List Bool) → IsOff depth ifs → all_run ifs ≡ false
 off_stops depth [] h = absurd h

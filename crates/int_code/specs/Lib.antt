@@ -4,3 +4,4 @@ pub mod Caps
 pub mod Text
 pub mod Held
 pub mod Stands
+pub mod Closes

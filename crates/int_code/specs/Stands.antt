@@ -1,5 +1,5 @@
 -- When lists of levels hold the bits of a program, and when a run that keeps no stack stands for a moment.
-use Rattle.std.specs.Prelude.{◌≡◌, ℕ, zero, suc, ◌+◌, Bool, true, false, List, [], ◌∷◌, slice_index_or}
+use Rattle.std.specs.Prelude.{◌≡◌, ℕ, zero, suc, ◌+◌, Bool, true, false, List, [], ◌∷◌}
 use Rattle.int_code.specs.declared.op.IntOp.{IntOp}
 use Rattle.int_code.specs.declared.op.IntOp.TheVariants.{Ifs, Ifc, Els, Fi}
 use Rattle.int_code.specs.declared.cycle.Progress.{Progress}

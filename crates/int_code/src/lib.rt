@@ -5,3 +5,4 @@ pub mod cycle;
 pub mod laws;
 pub mod op;
 pub mod text;
+pub mod well_formed;

@@ -1,12 +1,10 @@
-use Rattle.std.proofs.Common.{◌≡◌, ◌+◌, ◌≤◌, ◌∷◌, [], drop, length, refl, sym, ap, ◌∙◌, rules, arith, true, get_or}
+use Rattle.std.proofs.Common.{◌+◌, [], drop, refl, rules, arith, get_or}
 use Rattle.int_code.specs.declared.op.IntOp.TheVariants.{Set}
 use Rattle.int_code.specs.declared.op.BitDest.TheVariants.{B}
 use Rattle.std.proofs.lemmas.Grind.{common_steps}
 use Rattle.int_code.specs.Held.{bits_of}
-use Rattle.int_code.specs.WellFormed.{nests}
-use Rattle.int_code.specs.Meaning.{Moment, run, begin, step}
-use Rattle.int_code.specs.Stands.{Stands}
-use Rattle.int_code.proofs.NestLemmas.{Nested, nests_step, at_front}
+use Rattle.int_code.specs.Meaning.{begin, step}
+use Rattle.int_code.proofs.NestLemmas.{nests_step, at_front}
 use Rattle.int_code.proofs.cycle.cycle.Goals as goal
 
 pub loop-op-init : goal.loop-op-init

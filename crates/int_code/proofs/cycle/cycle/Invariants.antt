@@ -1,4 +1,4 @@
-use Rattle.std.proofs.Common.{◌≡◌, ◌≤◌, true, [], List, Bool, length, drop}
+use Rattle.std.proofs.Common.{◌≡◌, ◌≤◌, true, List, Bool, length, drop}
 use Rattle.int_code.specs.Held.{bits_of}
 use Rattle.int_code.specs.WellFormed.{nests}
 use Rattle.int_code.specs.Meaning.{Moment, run, begin}
