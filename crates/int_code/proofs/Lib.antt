@@ -1,5 +1,5 @@
 pub mod SkipLemmas
 pub mod NestLemmas
 pub mod CountLemmas
-pub mod SameLemmas
 pub mod CloseLemmas
+pub mod BitsLemmas

@@ -4,8 +4,8 @@ use Rattle.int_code.specs.declared.op.IntOp.{IntOp}
 use Rattle.int_code.specs.declared.op.IntOp.TheVariants.{Set, Clr, Cpy, Not, Ifs, Ifc, Els, Fi}
 use Rattle.ladder_meaning.specs.declared.reading.Reading.{Reading}
 use Rattle.int_code.specs.Meaning.{Bits, all_run, step}
-use Rattle.int_code.specs.Held.{SameBits, bits_of}
-use Rattle.int_code.specs.Stands.{Stands, IsOff, IsOpenFor, skipped_at}
+use Rattle.int_code.specs.Held.{bits_of}
+use Rattle.int_code.specs.Stands.{SameBits, Stands, IsOff, IsOpenFor, skipped_at}
 
 off_stops : (depth : ℕ) (ifs : List Bool) → IsOff depth ifs → all_run ifs ≡ false
 off_stops depth [] h = absurd h

@@ -1,5 +1,5 @@
 -- The bits of a program held in lists of levels.
-use Rattle.std.specs.Prelude.{◌≡◌, ℕ, Bool, false, List, length, slice_index_or}
+use Rattle.std.specs.Prelude.{Bool, false, List, length, slice_index_or}
 use Rattle.ladder_meaning.specs.declared.reading.Reading.{Reading}
 use Rattle.int_code.specs.Meaning.{Bits}
 use Rattle.int_code.specs.WellFormed.{Sizes}
@@ -7,11 +7,6 @@ use Rattle.int_code.specs.WellFormed.{Sizes}
 -- the bits and the outputs that two lists hold; past their ends all are false
 abbrev pub bits_of : List Bool → List Bool → Bits
 bits_of bits outputs = record { bit = λ k. slice_index_or bits k false; output = λ k. slice_index_or outputs k false }
-
--- the same at each number
-pub record SameBits (a b : Bits) : Type 0 where
-  pub bit : (k : ℕ) → a.bit k ≡ b.bit k
-  pub output : (k : ℕ) → a.output k ≡ b.output k
 
 -- the sizes of what a run is given
 abbrev pub held_sizes : Reading → List Bool → List Bool → Sizes

@@ -3,8 +3,8 @@ use Rattle.std.specs.Prelude.{◌≡◌, ℕ, zero, suc, ◌+◌, Bool, true, fa
 use Rattle.int_code.specs.declared.op.IntOp.{IntOp}
 use Rattle.int_code.specs.declared.op.IntOp.TheVariants.{Ifs, Ifc, Els, Fi}
 use Rattle.int_code.specs.declared.cycle.Progress.{Progress}
-use Rattle.int_code.specs.Held.{bits_of, SameBits}
-use Rattle.int_code.specs.Meaning.{Moment, all_run}
+use Rattle.int_code.specs.Held.{bits_of}
+use Rattle.int_code.specs.Meaning.{Bits, Moment, all_run}
 
 -- all branches run but one, which has depth more ifs inside
 abbrev pub IsOff : ℕ → List Bool → Type 0
@@ -15,6 +15,11 @@ IsOff (suc depth) (b ∷ bs) = IsOff depth bs
 abbrev pub IsMode : Bool → ℕ → List Bool → Type 0
 IsMode true depth ifs = IsOff depth ifs
 IsMode false depth ifs = all_run ifs ≡ true
+
+-- the same at each number
+pub record SameBits (a b : Bits) : Type 0 where
+  pub bit : (k : ℕ) → a.bit k ≡ b.bit k
+  pub output : (k : ℕ) → a.output k ≡ b.output k
 
 pub record Stands (m : Moment) (p : Progress) (bits outputs : List Bool) : Type 0 where
   pub mode : IsMode p.skips p.depth m.ifs

@@ -4,8 +4,8 @@ ghost use Rattle.std.specs.Prelude.{◌≡◌, ℕ, ◌+◌, ◌^◌, ◌<◌, �
 ghost use Rattle.int_code.specs.Meaning.{Moment, value_of, with, step};
 ghost use Rattle.int_code.specs.Meaning as meaning;
 ghost use Rattle.int_code.specs.WellFormed.{nests, IsDest, IsSource, IsInRange};
-ghost use Rattle.int_code.specs.Held.{bits_of, SameBits, held_sizes};
-ghost use Rattle.int_code.specs.Stands.{Stands, IsOpenFor, skipped};
+ghost use Rattle.int_code.specs.Held.{bits_of, held_sizes};
+ghost use Rattle.int_code.specs.Stands.{SameBits, Stands, IsOpenFor, skipped};
 
 use crate::op::{BitDest, BitSource, IntOp};
 use ladder_meaning::reading::Reading;
@@ -126,7 +126,7 @@ pub fn cycle(ops: &[IntOp], reading: &Reading, bits: &mut [bool], outputs: &mut 
     requires length { length ops.now < 2 ^ 31 }
     requires nests { nests ops.now [] ≡ true }
     requires range { All (IsInRange (held_sizes reading.now bits.old outputs.old)) ops.now }
-    ensures bits { SameBits (bits_of bits.new outputs.new) (meaning.cycle reading.now ops.now (bits_of bits.old outputs.old)).bits }
+    ensures bits { bits_of bits.new outputs.new ≡ (meaning.cycle reading.now ops.now (bits_of bits.old outputs.old)).bits }
     ensures count { result ≡ (meaning.cycle reading.now ops.now (bits_of bits.old outputs.old)).count }
 {
     let mut p = Progress {

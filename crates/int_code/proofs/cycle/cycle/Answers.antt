@@ -4,6 +4,7 @@ use Rattle.int_code.specs.declared.op.BitDest.TheVariants.{B}
 use Rattle.std.proofs.lemmas.Grind.{common_steps}
 use Rattle.int_code.specs.Held.{bits_of}
 use Rattle.int_code.specs.Meaning.{begin, step}
+use Rattle.int_code.proofs.BitsLemmas.{same_is}
 use Rattle.int_code.proofs.NestLemmas.{nests_step, at_front}
 use Rattle.int_code.proofs.cycle.cycle.Goals as goal
 
@@ -31,3 +32,6 @@ loop-op-preserved c =
       outputs = search (rules, common_steps);
       stands = (step r op s.0, n.flags, c.advance-p.ensures.stands s.0 s.2 n.is_open, n.count, n.rest, rw front at s.5);
     }
+
+pub returns-clause-bits : goal.returns-clause-bits
+returns-clause-bits c = same_is _ _ (search (rules, common_steps))
