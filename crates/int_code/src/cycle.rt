@@ -49,31 +49,20 @@ fn skip(op: &IntOp, p: Progress) -> Progress
     requires counted { p.count < 2 ^ 31 }
     ensures { result ≡ skipped op.now p }
 {
-    let Progress {
-        skips,
-        depth,
-        count,
-    } = p;
     match op {
         IntOp::Ifs { .. } | IntOp::Ifc { .. } => Progress {
-            skips,
-            depth: depth + 1,
-            count,
+            depth: p.depth + 1,
+            ..p
         },
-        IntOp::Els if depth == 0 => Progress {
+        IntOp::Els if p.depth == 0 => Progress { skips: false, ..p },
+        IntOp::Fi if p.depth == 0 => Progress {
             skips: false,
-            depth,
-            count,
-        },
-        IntOp::Fi if depth == 0 => Progress {
-            skips: false,
-            depth,
-            count: count + 1,
+            count: p.count + 1,
+            ..p
         },
         IntOp::Fi => Progress {
-            skips,
-            depth: depth - 1,
-            count,
+            depth: p.depth - 1,
+            ..p
         },
         _ => p,
     }
