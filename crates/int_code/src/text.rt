@@ -67,3 +67,47 @@ pub fn op_text(alloc: Global, op: &IntOp) -> Result<Text, AllocError>
     let line = format!(in alloc; "{op}\n")?;
     Ok(List::from_vec(line.into_bytes()))
 }
+
+#[cfg(test)]
+mod tests {
+    use super::*;
+    use std::test::Fail;
+
+    #[test]
+    fn writes_each_operation(rt: HostRuntime) -> Result<(), Fail> {
+        let b = BitDest::B(0);
+        let y = BitDest::Y(12);
+        let rows = [
+            (IntOp::Set { b }, "set b0\n"),
+            (IntOp::Clr { b: y }, "clr y12\n"),
+            (
+                IntOp::Cpy {
+                    b,
+                    s: BitSource::X(3),
+                },
+                "cpy b0 x3\n",
+            ),
+            (
+                IntOp::Not {
+                    b: y,
+                    s: BitSource::Y(4),
+                },
+                "not y12 y4\n",
+            ),
+            (
+                IntOp::Ifs {
+                    s: BitSource::B(99999),
+                },
+                "ifs b99999\n",
+            ),
+            (IntOp::Ifc { s: BitSource::X(0) }, "ifc x0\n"),
+            (IntOp::Els, "els\n"),
+            (IntOp::Fi, "fi\n"),
+        ];
+        for (op, want) in rows {
+            let text = op_text(rt.alloc(), &op)?;
+            assert_eq!(rt; text.as_slice(), want.as_bytes(), "at {op}");
+        }
+        Ok(())
+    }
+}

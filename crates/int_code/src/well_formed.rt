@@ -113,3 +113,52 @@ pub fn well_formed(p: &IntProgram) -> bool
         && ops.iter().all(|op| is_in_range(p, op))
         && ifs_nest(ops)
 }
+
+#[cfg(test)]
+mod tests {
+    use super::*;
+    use ld_base::list::List;
+    use std::alloc::{AllocError, Global};
+    use std::test::Fail;
+
+    /// Whether these operations are well formed over one bit, one input and one output.
+    fn accepts(alloc: Global, ops: &[IntOp]) -> Result<bool, AllocError> {
+        let p = IntProgram {
+            ops: List::from_vec(ops.to_vec(alloc)?),
+            inputs: 1,
+            outputs: 1,
+            analogs: 0,
+            variables: 0,
+            kept_bits: 1,
+            bits: 1,
+            persistent: 0,
+            starts: List::new(alloc),
+        };
+        Ok(well_formed(&p))
+    }
+
+    #[test]
+    fn tells_well_formed_operations(rt: HostRuntime) -> Result<(), Fail> {
+        let ifs = IntOp::Ifs { s: BitSource::X(0) };
+        let ifc = IntOp::Ifc { s: BitSource::B(0) };
+        let set = IntOp::Set { b: BitDest::Y(0) };
+        let past = IntOp::Set { b: BitDest::Y(1) };
+        let els = IntOp::Els;
+        let fi = IntOp::Fi;
+        let rows: [(&[IntOp], bool); 9] = [
+            (&[], true),
+            (&[ifs, set, els, set, fi], true),
+            (&[ifs, ifc, els, fi, els, ifs, fi, fi], true),
+            (&[ifs, els, set, els, fi], false),
+            (&[els], false),
+            (&[set, fi], false),
+            (&[ifs, ifc, fi], false),
+            (&[ifs, fi, fi, ifs], false),
+            (&[past], false),
+        ];
+        for (ops, want) in rows {
+            assert_eq!(rt; accepts(rt.alloc(), ops)?, want, "at {ops:?}");
+        }
+        Ok(())
+    }
+}

@@ -88,3 +88,103 @@ impl Interp {
         })
     }
 }
+
+#[cfg(test)]
+mod tests {
+    use super::*;
+    use int_code::op::{BitDest, BitSource, IntOp, IntProgram};
+    use int_code::well_formed::well_formed;
+    use ladder_tree::names::Names;
+    use std::test::Fail;
+
+    /// A latch that x0 sets and x1 clears: y0 follows the relay b0.
+    fn latch(alloc: Global) -> Result<InterpProgram, AllocError> {
+        let relay = BitDest::B(0);
+        let ops = vec![in alloc;
+            IntOp::Ifs { s: BitSource::X(0) },
+            IntOp::Set { b: relay },
+            IntOp::Fi,
+            IntOp::Ifs { s: BitSource::X(1) },
+            IntOp::Clr { b: relay },
+            IntOp::Els,
+            IntOp::Cpy {
+                b: BitDest::Y(0),
+                s: BitSource::B(0)
+            },
+            IntOp::Fi,
+        ]?;
+        let start = List::from_vec(b"Xstart".to_vec(alloc)?);
+        let stop = List::from_vec(b"Xstop".to_vec(alloc)?);
+        let motor = List::from_vec(b"Ymotor".to_vec(alloc)?);
+        let kept = List::from_vec(b"Rkept".to_vec(alloc)?);
+        Ok(InterpProgram {
+            cycle: 10_000,
+            names: Names {
+                inputs: List::from_vec(vec![in alloc; start, stop]?),
+                outputs: List::from_vec(vec![in alloc; motor]?),
+                relays: List::from_vec(vec![in alloc; kept]?),
+                variables: List::new(alloc),
+                analog: List::new(alloc),
+                persistent: List::new(alloc),
+                memories: 0,
+            },
+            program: IntProgram {
+                ops: List::from_vec(ops),
+                inputs: 2,
+                outputs: 1,
+                analogs: 0,
+                variables: 0,
+                kept_bits: 1,
+                bits: 1,
+                persistent: 0,
+                starts: List::new(alloc),
+            },
+            code_line: 8,
+        })
+    }
+
+    fn reading(alloc: Global, start: bool, stop: bool) -> Result<Reading, AllocError> {
+        Ok(Reading {
+            inputs: List::from_vec(vec![in alloc; start, stop]?),
+            analog: List::new(alloc),
+            rx: None,
+            tx_busy: false,
+            ee_busy: false,
+        })
+    }
+
+    #[test]
+    fn runs_a_latch(rt: HostRuntime) -> Result<(), Fail> {
+        let p = latch(rt.alloc())?;
+        assert!(rt; well_formed(&p.program));
+        assert!(rt; p.names.outputs.len() == p.program.outputs as usize);
+        assert!(rt; p.names.relays.len() <= p.program.bits as usize);
+        assert!(rt; p.program.ops.len() < 1_000_000);
+        let mut machine = Interp::new(rt.alloc(), p, &[0xff; 512])?;
+        // start, stop; the relay, the output, and how many operations were executed
+        let rows = [
+            (false, false, false, false, 5),
+            (true, false, true, true, 6),
+            (false, false, true, true, 5),
+            (false, true, false, true, 6),
+            (false, false, false, false, 5),
+        ];
+        for (start, stop, kept, motor, count) in rows {
+            let r = reading(rt.alloc(), start, stop)?;
+            assert!(rt; r.inputs.len() == machine.program().program.inputs as usize);
+            assert_eq!(rt; machine.cycle(&r), count, "at {start} {stop}");
+            let view = machine.view(rt.alloc())?;
+            assert_eq!(rt;
+                view.relays.as_slice(),
+                [kept].as_slice(),
+                "at {start} {stop}"
+            );
+            assert_eq!(rt;
+                view.outputs.as_slice(),
+                [motor].as_slice(),
+                "at {start} {stop}"
+            );
+        }
+        Ok(())
+    }
+}
