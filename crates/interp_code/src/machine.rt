@@ -94,18 +94,20 @@ mod tests {
     use super::*;
     use int_code::op::{BitDest, BitSource, IntOp, IntProgram};
     use int_code::well_formed::well_formed;
-    use ladder_tree::names::Names;
+    use ladder_tree::names::{NameList, Names};
     use std::test::Fail;
 
-    /// A latch that x0 sets and x1 clears: y0 follows the relay b0.
-    fn latch(alloc: Global) -> Result<InterpProgram, AllocError> {
-        let relay = BitDest::B(0);
+    fn one_name(alloc: Global, name: &[u8]) -> Result<NameList, AllocError> {
+        let mut names = List::new(alloc);
+        names.push(List::from_vec(name.to_vec(alloc)?))?;
+        Ok(names)
+    }
+
+    /// The input x0 sets the relay b0, or else the output y0 follows it.
+    fn program(alloc: Global) -> Result<IntProgram, AllocError> {
         let ops = vec![in alloc;
             IntOp::Ifs { s: BitSource::X(0) },
-            IntOp::Set { b: relay },
-            IntOp::Fi,
-            IntOp::Ifs { s: BitSource::X(1) },
-            IntOp::Clr { b: relay },
+            IntOp::Set { b: BitDest::B(0) },
             IntOp::Els,
             IntOp::Cpy {
                 b: BitDest::Y(0),
@@ -113,77 +115,91 @@ mod tests {
             },
             IntOp::Fi,
         ]?;
-        let start = List::from_vec(b"Xstart".to_vec(alloc)?);
-        let stop = List::from_vec(b"Xstop".to_vec(alloc)?);
-        let motor = List::from_vec(b"Ymotor".to_vec(alloc)?);
-        let kept = List::from_vec(b"Rkept".to_vec(alloc)?);
-        Ok(InterpProgram {
-            cycle: 10_000,
-            names: Names {
-                inputs: List::from_vec(vec![in alloc; start, stop]?),
-                outputs: List::from_vec(vec![in alloc; motor]?),
-                relays: List::from_vec(vec![in alloc; kept]?),
-                variables: List::new(alloc),
-                analog: List::new(alloc),
-                persistent: List::new(alloc),
-                memories: 0,
-            },
-            program: IntProgram {
-                ops: List::from_vec(ops),
-                inputs: 2,
-                outputs: 1,
-                analogs: 0,
-                variables: 0,
-                kept_bits: 1,
-                bits: 1,
-                persistent: 0,
-                starts: List::new(alloc),
-            },
-            code_line: 8,
+        Ok(IntProgram {
+            ops: List::from_vec(ops),
+            inputs: 1,
+            outputs: 1,
+            analogs: 0,
+            variables: 0,
+            kept_bits: 1,
+            bits: 1,
+            persistent: 0,
+            starts: List::new(alloc),
         })
     }
 
-    fn reading(alloc: Global, start: bool, stop: bool) -> Result<Reading, AllocError> {
-        Ok(Reading {
-            inputs: List::from_vec(vec![in alloc; start, stop]?),
+    fn names(alloc: Global) -> Result<Names, AllocError> {
+        let inputs = one_name(alloc, b"Xstart")?;
+        let outputs = one_name(alloc, b"Ymotor")?;
+        let relays = one_name(alloc, b"Rkept")?;
+        Ok(Names {
+            inputs,
+            outputs,
+            relays,
+            variables: List::new(alloc),
+            analog: List::new(alloc),
+            persistent: List::new(alloc),
+            memories: 0,
+        })
+    }
+
+    fn machine(alloc: Global) -> Result<Option<Interp>, AllocError> {
+        let p = InterpProgram {
+            cycle: 10_000,
+            names: names(alloc)?,
+            program: program(alloc)?,
+            code_line: 7,
+        };
+        let runs = well_formed(&p.program)
+            && p.names.outputs.len() == p.program.outputs as usize
+            && p.names.relays.len() <= p.program.bits as usize
+            && p.program.ops.len() < 1_000_000;
+        if !runs {
+            return Ok(None);
+        }
+        Ok(Some(Interp::new(alloc, p, &[0xff; 512])?))
+    }
+
+    /// A cycle on the level of x0: how many operations were executed.
+    fn step(alloc: Global, machine: &mut Interp, level: bool) -> Result<Option<u32>, AllocError> {
+        let mut inputs = List::new(alloc);
+        inputs.push(level)?;
+        let r = Reading {
+            inputs,
             analog: List::new(alloc),
             rx: None,
             tx_busy: false,
             ee_busy: false,
-        })
+        };
+        if r.inputs.len() != machine.program().program.inputs as usize {
+            return Ok(None);
+        }
+        Ok(Some(machine.cycle(&r)))
+    }
+
+    /// The level of the relay and of the output, where there is one of each.
+    fn shown(alloc: Global, machine: &Interp) -> Result<Option<(bool, bool)>, AllocError> {
+        let view = machine.view(alloc)?;
+        match (view.relays.as_slice(), view.outputs.as_slice()) {
+            ([relay], [output]) => Ok(Some((*relay, *output))),
+            _ => Ok(None),
+        }
     }
 
     #[test]
-    fn runs_a_latch(rt: HostRuntime) -> Result<(), Fail> {
-        let p = latch(rt.alloc())?;
-        assert!(rt; well_formed(&p.program));
-        assert!(rt; p.names.outputs.len() == p.program.outputs as usize);
-        assert!(rt; p.names.relays.len() <= p.program.bits as usize);
-        assert!(rt; p.program.ops.len() < 1_000_000);
-        let mut machine = Interp::new(rt.alloc(), p, &[0xff; 512])?;
-        // start, stop; the relay, the output, and how many operations were executed
+    fn runs_a_program(rt: HostRuntime) -> Result<(), Fail> {
+        let Some(mut m) = machine(rt.alloc())? else {
+            return Ok(assert!(rt; false));
+        };
+        // the input; how many operations are executed, the relay, the output
         let rows = [
-            (false, false, false, false, 5),
-            (true, false, true, true, 6),
-            (false, false, true, true, 5),
-            (false, true, false, true, 6),
-            (false, false, false, false, 5),
+            (false, 3, false, false),
+            (true, 4, true, false),
+            (false, 3, true, true),
         ];
-        for (start, stop, kept, motor, count) in rows {
-            let r = reading(rt.alloc(), start, stop)?;
-            assert!(rt; r.inputs.len() == machine.program().program.inputs as usize);
-            assert_eq!(rt; machine.cycle(&r), count, "at {start} {stop}");
-            let view = machine.view(rt.alloc())?;
-            assert_eq!(rt;
-                view.relays.as_slice(),
-                [kept].as_slice(),
-                "at {start} {stop}"
-            );
-            assert_eq!(rt;
-                view.outputs.as_slice(),
-                [motor].as_slice(),
-                "at {start} {stop}"
-            );
+        for (level, count, relay, output) in rows {
+            assert_eq!(rt; step(rt.alloc(), &mut m, level)?, Some(count), "at {level}");
+            assert_eq!(rt; shown(rt.alloc(), &m)?, Some((relay, output)), "at {level}");
         }
         Ok(())
     }
