@@ -1,3 +1,4 @@
 pub mod GrowLemmas
 pub mod EntryLemmas
 pub mod WrapLemmas
+pub mod LineLemmas

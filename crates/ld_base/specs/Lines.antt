@@ -25,13 +25,14 @@ abbrev pub joined : List (List ℕ) → List ℕ
 joined [] = []
 joined (line ∷ lines) = line ++ 10 ∷ joined lines
 
--- the text is this line, a line feed and the rest, or it is this line alone
-abbrev pub IsSplit : List ℕ → List ℕ → List ℕ → Type 0
-IsSplit text line rest = (text ≡ line ++ 10 ∷ rest) ⊎ ((text ≡ line) × (rest ≡ []))
-
--- the first line of a text, and what lies behind it
+-- the first line of a text, and what lies behind it: behind its line feed, or nothing
 pub record IsFirstLine (text line rest : List ℕ) : Type 0 where
   pub lines : lines text ≡ line ∷ lines rest
   pub clean : IsLine line
-  pub parts : IsSplit text line rest
+  pub parts : (text ≡ line ++ 10 ∷ rest) ⊎ ((text ≡ line) × (rest ≡ []))
   pub shorter : length rest < length text
+
+-- the first piece of a text, and what lies behind its separator
+pub record IsFirstPiece (separator : ℕ) (text piece rest : List ℕ) : Type 0 where
+  pub parts : text ≡ piece ++ separator ∷ rest
+  pub clean : All (λ x. x ≢ separator) piece
