@@ -6,3 +6,4 @@ pub mod MemFiles
 pub mod MemOut
 pub mod Wrap
 pub mod Lines
+pub mod Host

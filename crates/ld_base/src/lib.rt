@@ -4,6 +4,7 @@
 
 pub mod device;
 mod entries;
+pub mod host;
 pub mod lines;
 pub mod mem_files;
 pub mod mem_out;
