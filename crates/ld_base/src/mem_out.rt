@@ -95,3 +95,22 @@ impl Out for MemOut {
         self.faults
     }
 }
+
+#[cfg(test)]
+mod tests {
+    use super::*;
+    use crate::whole::write_out;
+    use std::test::Fail;
+
+    #[test]
+    fn keeps_what_was_written_before_a_fault(rt: HostRuntime) -> Result<(), Fail> {
+        let mut out = MemOut::new(rt.alloc());
+        out.fail_at(2)?;
+        write_out(&mut out, b"relay ")?;
+        assert!(rt; matches!(write_out(&mut out, b"timer "), Err(FileFault::Failed)));
+        write_out(&mut out, b"coil")?;
+        assert_eq!(rt; out.bytes(), b"relay coil".as_slice());
+        assert_eq!(rt; out.faults(), 1);
+        Ok(())
+    }
+}
