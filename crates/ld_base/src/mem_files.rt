@@ -68,6 +68,7 @@ impl MemFiles {
         hold(self.alloc, &mut self.files, name.as_bytes(), bytes)
     }
 
+    /// What the name holds, or none.
     pub fn get(&self, name: &str) -> Option<&[u8]>
         ensures { now_of result ≡ held_by self.now name.now }
     {
@@ -85,6 +86,7 @@ impl MemFiles {
         Ok(())
     }
 
+    /// Whether the name is held.
     fn holds(&self, name: &str) -> bool
         ensures { result ≡ is_some (held_by self.now name.now) }
     {
