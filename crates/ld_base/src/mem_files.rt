@@ -1,6 +1,6 @@
 //! Files in memory, which fail at the calls that they are told to.
 
-ghost use Rattle.std.specs.Prelude.{◌≡◌, ℕ, List, true, false, Some, None, Ok, Err, OnOk, OnErr, IfOk, is_ok, length, take, drop, min, [], ◌∷◌, ◌++◌, ◌+◌, ◌^◌, ◌<◌, ◌≤◌, IsErrOf, if◌then◌else◌, is_some};
+ghost use Rattle.std.specs.Prelude.{◌≡◌, ℕ, List, true, false, Some, None, Ok, Err, OnOk, OnErr, IfOk, is_ok, length, take, drop, min, [], ◌∷◌, ◌++◌, ◌+◌, ◌^◌, ◌<◌, ◌≤◌, IsErrOf, ◌↔◌, if◌then◌else◌, is_some};
 ghost use Rattle.ld_base.specs.Bytes.{SameHeld, HoldsThen, Grows};
 ghost use Rattle.ld_base.specs.Counts.{one_more, read_failed, absent, write_failed, OpenCounts, ReadCounts, WriteCounts};
 ghost use Rattle.ld_base.specs.Entries.{now_of};
@@ -125,13 +125,11 @@ impl Files for MemFiles {
         ensures writing { is_writing_of self.new ≡ is_writing_of self.old }
         ensures counts { OpenCounts (counts_of self.old) (counts_of self.new) result }
         ensures opened { OnOk result (held_by self.old name.now ≡ Some (left_of self.new)) }
-        ensures absent { IsErrOf result OpenFault.Absent → held_by self.old name.now ≡ None }
+        ensures absent { IsErrOf result OpenFault.Absent ↔ ((fails_next self.old ≡ false) × (held_by self.old name.now ≡ None)) }
         ensures held { SameHeld (held_by self.old) (held_by self.new) }
 
         ensures call { CountsCall self.old self.new }
-        ensures fails { fails_next self.old ≡ true → result ≡ Err OpenFault.Failed }
-        ensures fails_alone { result ≡ Err OpenFault.Failed → fails_next self.old ≡ true }
-        ensures missing { fails_next self.old ≡ false → held_by self.old name.now ≡ None → result ≡ Err OpenFault.Absent }
+        ensures fails { IsErrOf result OpenFault.Failed ↔ (fails_next self.old ≡ true) }
         ensures counted { counts_of self.new ≡ (if fails_next self.old then read_failed (counts_of self.old) else (if is_some (held_by self.old name.now) then counts_of self.old else absent (counts_of self.old))) }
     {
         self.is_open = false;
@@ -182,8 +180,7 @@ impl Files for MemFiles {
         ensures err { OnErr result (SameHeld (held_by self.old) (held_by self.new)) }
 
         ensures call { CountsCall self.old self.new }
-        ensures fails { fails_next self.old ≡ true → result ≡ Err FileFault.Failed }
-        ensures fails_alone { result ≡ Err FileFault.Failed → fails_next self.old ≡ true }
+        ensures fails { IsErrOf result FileFault.Failed ↔ (fails_next self.old ≡ true) }
         ensures counted { counts_of self.new ≡ (if fails_next self.old then write_failed (counts_of self.old) else counts_of self.old) }
     {
         self.is_writing = false;
@@ -213,8 +210,7 @@ impl Files for MemFiles {
 
         ensures call { CountsCall self.old self.new }
         ensures whole { IfOk result (λ n. n ≡ length piece.now) }
-        ensures fails { fails_next self.old ≡ true → result ≡ Err FileFault.Failed }
-        ensures fails_alone { result ≡ Err FileFault.Failed → fails_next self.old ≡ true }
+        ensures fails { IsErrOf result FileFault.Failed ↔ (fails_next self.old ≡ true) }
         ensures counted { counts_of self.new ≡ (if fails_next self.old then write_failed (counts_of self.old) else counts_of self.old) }
     {
         if self.fails() {
