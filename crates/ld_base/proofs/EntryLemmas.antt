@@ -11,6 +11,12 @@ use Rattle.ld_base.specs.Entries.{held_in, place_from, Found}
 same_text : (a b : List ℕ) → bytes_eq a b ≡ true → a ≡ b
 same_text a b e = (bytes_eq-Decides a b).0 e
 
+-- two tests that never both hold may change places
+apart : (a b : Bool) (x y z : Option (List ℕ)) → (a ≡ true → b ≡ true → ⊥) → cond a x (cond b y z) ≡ cond b y (cond a x z)
+apart true true x y z no_both = absurd (no_both refl refl)
+apart true false x y z no_both = refl
+apart false b x y z no_both = refl
+
 place_at_least : (es : List Entry) (name : List ℕ) (j x : ℕ) → place_from j es name ≡ Some x → j ≤ x
 place_at_least [] name j x h = absurd cc
 place_at_least (f ∷ es) name j x h = by (place_at_least es name (j + 1) x) (bytes_eq f.name.items name) h
@@ -42,11 +48,6 @@ later f es name k e h = record {
     clash : bytes_eq f.name.items name ≡ true → ⊥
     clash t = cc
 
-    apart : (a b : Bool) (x y z : Option (List ℕ)) → (a ≡ true → b ≡ true → ⊥) → cond a x (cond b y z) ≡ cond b y (cond a x z)
-    apart true true x y z no_both = absurd (no_both refl refl)
-    apart true false x y z no_both = refl
-    apart false b x y z no_both = refl
-
 pub found : (es : List Entry) (name : List ℕ) (j k : ℕ) → place_from j es name ≡ Some (j + k) → Found es name k
 found [] name j k h = absurd cc
 found (f ∷ es) name j k h = by (λ i. found es name (j + 1) i) (bytes_eq f.name.items name) k refl h
@@ -69,11 +70,6 @@ pub pushed : (es : List Entry) (e : Entry) (n : List ℕ) → held_in es e.name.
 pushed [] e n h = refl
 pushed (f ∷ es) e n h = by (pushed es e n) (bytes_eq f.name.items e.name.items) h refl
   where
-    apart : (a b : Bool) (x y z : Option (List ℕ)) → (a ≡ true → b ≡ true → ⊥) → cond a x (cond b y z) ≡ cond b y (cond a x z)
-    apart true true x y z no_both = absurd (no_both refl refl)
-    apart true false x y z no_both = refl
-    apart false b x y z no_both = refl
-
     by : (held_in es e.name.items ≡ None → held_in (es ++ e ∷ []) n ≡ cond (bytes_eq e.name.items n) (Some e.bytes.items) (held_in es n)) → (b : Bool) → cond b (Some f.bytes.items) (held_in es e.name.items) ≡ None → bytes_eq f.name.items e.name.items ≡ b → cond (bytes_eq f.name.items n) (Some f.bytes.items) (held_in (es ++ e ∷ []) n) ≡ cond (bytes_eq e.name.items n) (Some e.bytes.items) (cond (bytes_eq f.name.items n) (Some f.bytes.items) (held_in es n))
     by rec true h t = cc
     by rec false h t = ap (cond (bytes_eq f.name.items n) (Some f.bytes.items)) (rec h) ∙ apart (bytes_eq f.name.items n) (bytes_eq e.name.items n) (Some f.bytes.items) (Some e.bytes.items) (held_in es n) (λ p q. clash t (ap (bytes_eq f.name.items) (same_text e.name.items n q) ∙ p))

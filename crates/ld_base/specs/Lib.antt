@@ -7,3 +7,4 @@ pub mod MemOut
 pub mod Wrap
 pub mod Lines
 pub mod Refusal
+pub mod Host

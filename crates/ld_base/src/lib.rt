@@ -4,6 +4,7 @@
 
 pub mod device;
 mod entries;
+pub mod host;
 pub mod lines;
 pub mod list;
 pub mod mem_files;

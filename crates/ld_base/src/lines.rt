@@ -62,3 +62,33 @@ pub fn split_all<'a>(
     found.push(rest)?;
     Ok(found)
 }
+
+#[cfg(test)]
+mod tests {
+    use super::*;
+    use std::test::Fail;
+
+    #[test]
+    fn splits_off_the_first_line(rt: HostRuntime) {
+        let rows = [
+            ("", None),
+            ("\n", Some(("", ""))),
+            ("rung", Some(("rung", ""))),
+            ("rung\n", Some(("rung", ""))),
+            ("rung\r\n\ncoil", Some(("rung\r", "\ncoil"))),
+        ];
+        for (text, want) in rows {
+            let found = split_line(text.as_bytes());
+            let want = want.map(|(line, rest)| (line.as_bytes(), rest.as_bytes()));
+            assert_eq!(rt; found, want, "at {text:?}");
+        }
+    }
+
+    #[test]
+    fn splits_into_pieces(rt: HostRuntime) -> Result<(), Fail> {
+        let found = split_all(rt.alloc(), b' ', b"a  bc ")?;
+        let want = vec![in rt.alloc(); b"a".as_slice(), b"", b"bc", b""]?;
+        assert_eq!(rt; found.as_slice(), want.as_slice());
+        Ok(())
+    }
+}

@@ -1,6 +1,6 @@
 //! Files in memory, which fail at the calls that they are told to.
 
-ghost use Rattle.std.specs.Prelude.{◌≡◌, ℕ, List, true, false, Some, None, Ok, Err, OnOk, OnErr, IfOk, is_ok, length, take, drop, min, [], ◌∷◌, ◌++◌, ◌+◌, ◌^◌, ◌<◌, ◌≤◌, IsErrOf, if◌then◌else◌, is_some};
+ghost use Rattle.std.specs.Prelude.{◌≡◌, ℕ, List, true, false, Some, None, Ok, Err, OnOk, OnErr, IfOk, is_ok, length, take, drop, min, [], ◌∷◌, ◌++◌, ◌+◌, ◌^◌, ◌<◌, ◌≤◌, IsErrOf, ◌↔◌, if◌then◌else◌, is_some};
 ghost use Rattle.ld_base.specs.Bytes.{SameHeld, HoldsThen, Grows};
 ghost use Rattle.ld_base.specs.Counts.{one_more, read_failed, absent, write_failed, OpenCounts, ReadCounts, WriteCounts};
 ghost use Rattle.ld_base.specs.Entries.{now_of};
@@ -68,6 +68,7 @@ impl MemFiles {
         hold(self.alloc, &mut self.files, name.as_bytes(), bytes)
     }
 
+    /// What the name holds, or none.
     pub fn get(&self, name: &str) -> Option<&[u8]>
         ensures { now_of result ≡ held_by self.now name.now }
     {
@@ -85,6 +86,7 @@ impl MemFiles {
         Ok(())
     }
 
+    /// Whether the name is held.
     fn holds(&self, name: &str) -> bool
         ensures { result ≡ is_some (held_by self.now name.now) }
     {
@@ -123,13 +125,11 @@ impl Files for MemFiles {
         ensures writing { is_writing_of self.new ≡ is_writing_of self.old }
         ensures counts { OpenCounts (counts_of self.old) (counts_of self.new) result }
         ensures opened { OnOk result (held_by self.old name.now ≡ Some (left_of self.new)) }
-        ensures absent { IsErrOf result OpenFault.Absent → held_by self.old name.now ≡ None }
+        ensures absent { IsErrOf result OpenFault.Absent ↔ ((fails_next self.old ≡ false) × (held_by self.old name.now ≡ None)) }
         ensures held { SameHeld (held_by self.old) (held_by self.new) }
 
         ensures call { CountsCall self.old self.new }
-        ensures fails { fails_next self.old ≡ true → result ≡ Err OpenFault.Failed }
-        ensures fails_alone { result ≡ Err OpenFault.Failed → fails_next self.old ≡ true }
-        ensures missing { fails_next self.old ≡ false → held_by self.old name.now ≡ None → result ≡ Err OpenFault.Absent }
+        ensures fails { IsErrOf result OpenFault.Failed ↔ (fails_next self.old ≡ true) }
         ensures counted { counts_of self.new ≡ (if fails_next self.old then read_failed (counts_of self.old) else (if is_some (held_by self.old name.now) then counts_of self.old else absent (counts_of self.old))) }
     {
         self.is_open = false;
@@ -180,8 +180,7 @@ impl Files for MemFiles {
         ensures err { OnErr result (SameHeld (held_by self.old) (held_by self.new)) }
 
         ensures call { CountsCall self.old self.new }
-        ensures fails { fails_next self.old ≡ true → result ≡ Err FileFault.Failed }
-        ensures fails_alone { result ≡ Err FileFault.Failed → fails_next self.old ≡ true }
+        ensures fails { IsErrOf result FileFault.Failed ↔ (fails_next self.old ≡ true) }
         ensures counted { counts_of self.new ≡ (if fails_next self.old then write_failed (counts_of self.old) else counts_of self.old) }
     {
         self.is_writing = false;
@@ -211,8 +210,7 @@ impl Files for MemFiles {
 
         ensures call { CountsCall self.old self.new }
         ensures whole { IfOk result (λ n. n ≡ length piece.now) }
-        ensures fails { fails_next self.old ≡ true → result ≡ Err FileFault.Failed }
-        ensures fails_alone { result ≡ Err FileFault.Failed → fails_next self.old ≡ true }
+        ensures fails { IsErrOf result FileFault.Failed ↔ (fails_next self.old ≡ true) }
         ensures counted { counts_of self.new ≡ (if fails_next self.old then write_failed (counts_of self.old) else counts_of self.old) }
     {
         if self.fails() {
@@ -268,4 +266,48 @@ fn copy_from(bytes: &[u8], at: usize, buf: &mut [u8]) -> usize
     let n = buf.len().min(bytes.len() - at);
     buf[..n].copy_from_slice(&bytes[at..at + n]);
     n
+}
+
+#[cfg(test)]
+mod tests {
+    use super::*;
+    use crate::whole::{read_file, write_file};
+    use std::test::Fail;
+
+    #[test]
+    fn holds_what_is_put_and_written(rt: HostRuntime) -> Result<(), Fail> {
+        let mut files = MemFiles::new(rt.alloc());
+        files.put("source", b"contact")?;
+        let all = read_file(rt.alloc(), &mut files, "source", 7)?;
+        assert_eq!(rt; all.as_slice(), b"contact".as_slice());
+        let front = read_file(rt.alloc(), &mut files, "source", 2)?;
+        assert_eq!(rt; front.as_slice(), b"con".as_slice());
+        files.create("dest")?;
+        write_file(&mut files, b"coil")?;
+        files.finish()?;
+        assert_eq!(rt; files.get("dest"), Some(b"coil".as_slice()));
+        assert!(rt; matches!(files.open("other"), Err(OpenFault::Absent)));
+        assert_eq!(rt; files.absences(), 1);
+        Ok(())
+    }
+
+    #[test]
+    fn fails_where_it_is_told_to(rt: HostRuntime) -> Result<(), Fail> {
+        for (call, reads, writes) in [(1, 1, 0), (2, 1, 0), (3, 0, 1), (4, 0, 1), (5, 0, 1), (6, 0, 0)] {
+            let mut files = MemFiles::new(rt.alloc());
+            files.put("source", b"contact")?;
+            files.fail_at(call)?;
+            let mut buf = [0u8; 4];
+            if files.open("source").is_ok() {
+                let _ = files.read(&mut buf);
+            }
+            if files.create("dest").is_ok() {
+                let _ = files.write(b"coil");
+                let _ = files.finish();
+            }
+            assert_eq!(rt; files.read_faults(), reads, "at {call}");
+            assert_eq!(rt; files.write_faults(), writes, "at {call}");
+        }
+        Ok(())
+    }
 }

@@ -1,6 +1,6 @@
 //! An output in memory, which fails at the calls that it is told to.
 
-ghost use Rattle.std.specs.Prelude.{◌≡◌, ◌++◌, ◌∷◌, [], ◌<◌, ◌≤◌, length, take, Err, OnOk, OnErr, IfOk, if◌then◌else◌, true, false};
+ghost use Rattle.std.specs.Prelude.{◌≡◌, ◌++◌, ◌∷◌, [], ◌<◌, ◌≤◌, length, take, Err, IsErrOf, ◌↔◌, OnOk, OnErr, IfOk, if◌then◌else◌, true, false};
 ghost use Rattle.ld_base.specs.Counts.{one_more, OutCount};
 
 use crate::device::{FileFault, Out};
@@ -79,8 +79,7 @@ impl Out for MemOut {
         ensures calls { out_calls self.new ≡ one_more (out_calls self.old) }
         ensures failing { out_failing self.new ≡ out_failing self.old }
         ensures whole { IfOk result (λ n. n ≡ length piece.now) }
-        ensures fails { out_fails_next self.old ≡ true → result ≡ Err FileFault.Failed }
-        ensures fails_alone { result ≡ Err FileFault.Failed → out_fails_next self.old ≡ true }
+        ensures fails { IsErrOf result FileFault.Failed ↔ (out_fails_next self.old ≡ true) }
         ensures counted { out_faults self.new ≡ (if out_fails_next self.old then one_more (out_faults self.old) else out_faults self.old) }
     {
         if self.fails() {
@@ -93,5 +92,24 @@ impl Out for MemOut {
 
     fn faults(&self) -> u64 {
         self.faults
+    }
+}
+
+#[cfg(test)]
+mod tests {
+    use super::*;
+    use crate::whole::write_out;
+    use std::test::Fail;
+
+    #[test]
+    fn keeps_what_was_written_before_a_fault(rt: HostRuntime) -> Result<(), Fail> {
+        let mut out = MemOut::new(rt.alloc());
+        out.fail_at(2)?;
+        write_out(&mut out, b"relay ")?;
+        assert!(rt; matches!(write_out(&mut out, b"timer "), Err(FileFault::Failed)));
+        write_out(&mut out, b"coil")?;
+        assert_eq!(rt; out.bytes(), b"relay coil".as_slice());
+        assert_eq!(rt; out.faults(), 1);
+        Ok(())
     }
 }

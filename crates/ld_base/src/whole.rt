@@ -65,6 +65,8 @@ fn read_rest<F: Files>(alloc: Global, files: &mut F, limit: usize) -> Result<Vec
 }
 
 /// The bytes of a file, and of a longer one those up to the first past the limit.
+///
+/// The file stays open. A caller sees that the file was longer by a length of `limit + 1`.
 pub fn read_file<F: Files>(
     alloc: Global,
     files: &mut F,
