@@ -1,18 +1,14 @@
 -- The memories of each target: RAM for variables and bits, EEPROM, program flash.
-use Rattle.std.specs.Prelude.{ℕ, ◌+◌, ◌-◌, List, [], ◌∷◌, Option, Some, None, sum_by}
+use Rattle.std.specs.Prelude.{ℕ, ◌+◌, ◌-◌, nat_lt, if◌then◌else◌, List, [], ◌∷◌, Option, Some, None, sum_by}
+use Rattle.chip_tables.specs.declared.memory.Range.{Range}
 use Rattle.chip_tables.specs.declared.target.Target.{Target}
 use Rattle.chip_tables.specs.declared.target.Target.TheVariants.{F628, F877, Mega16, Interp, AnsiC}
-
--- addresses that follow one another, both ends among them
-pub record Range : Type 0 where
-  pub first : ℕ
-  pub last : ℕ
 
 abbrev pub range : ℕ → ℕ → Range
 range first last = record { first = first; last = last }
 
 abbrev pub size : Range → ℕ
-size r = r.last - r.first + 1
+size r = r.last + 1 - r.first
 
 -- the file registers and the SRAM that hold variables and bits, in this order.
 -- PIC16F62X data sheet, "Data Memory Organization"; PIC16F87X data sheet, figure 2-3;
@@ -32,6 +28,15 @@ ram_size F877 = sum_by size (ram_ranges F877)
 ram_size Mega16 = sum_by size (ram_ranges Mega16)
 ram_size Interp = 8192
 ram_size AnsiC = 8192
+
+-- the address of byte `index` of the ranges one after the other
+abbrev pub byte_at : List Range → ℕ → Option ℕ
+byte_at [] index = None
+byte_at (r ∷ rs) index =
+    if nat_lt index (size r) then Some (r.first + index) else byte_at rs (index - size r)
+
+abbrev pub ram_address : Target → ℕ → Option ℕ
+ram_address target index = byte_at (ram_ranges target) index
 
 -- bytes; PIC16F62X and PIC16F87X data sheets, "Data EEPROM Memory"; ATmega16 data sheet, "EEPROM
 -- Data Memory"; a target that is no chip has the most of any chip
