@@ -1,0 +1,114 @@
+ghost use Rattle.std.specs.Prelude.{◌≡◌, ◌<◌, ◌↔◌, Some, None, IsSome, sum_by};
+ghost use Rattle.chip_tables.specs.Memory.{ram_size, eeprom_size, flash_size, ram_ranges, ram_address, byte_at, size};
+
+use crate::target::Target;
+
+// Addresses of data memory that follow one another, both ends among them.
+#[derive(Clone, Copy)]
+struct Range {
+    first: u16,
+    last: u16,
+}
+
+/// The bytes of RAM that hold variables and bits. The other bytes of a chip's RAM are its
+/// compiler's scratch cells and stack; a target that is no chip has a limit of 8192.
+pub fn ram_have(target: Target) -> u32
+    ensures { result ≡ ram_size target }
+{
+    match target {
+        Target::F628 => 208,
+        Target::F877 => 352,
+        Target::Mega16 => 960,
+        Target::Interp | Target::AnsiC => 8192,
+    }
+}
+
+/// The address in data memory of byte `index` of the bytes that hold variables and bits: the
+/// ranges of the chip one after the other. On a PIC the two high bits of the address are the bank.
+pub fn ram_byte(target: Target, index: u32) -> Option<u16>
+    ensures value { result ≡ ram_address target index }
+    ensures within { IsSome result ↔ (index < sum_by size (ram_ranges target)) }
+{
+    match target {
+        Target::F628 => byte_in(&F628_RAM, index),
+        Target::F877 => byte_in(&F877_RAM, index),
+        Target::Mega16 => byte_in(&MEGA16_RAM, index),
+        Target::Interp | Target::AnsiC => None,
+    }
+}
+
+const F628_RAM: [Range; 3] = [
+    Range {
+        first: 0x20,
+        last: 0x6f,
+    },
+    Range {
+        first: 0xa0,
+        last: 0xef,
+    },
+    Range {
+        first: 0x120,
+        last: 0x14f,
+    },
+];
+
+const F877_RAM: [Range; 4] = [
+    Range {
+        first: 0x20,
+        last: 0x6f,
+    },
+    Range {
+        first: 0xa0,
+        last: 0xef,
+    },
+    Range {
+        first: 0x110,
+        last: 0x16f,
+    },
+    Range {
+        first: 0x190,
+        last: 0x1ef,
+    },
+];
+
+const MEGA16_RAM: [Range; 1] = [Range {
+    first: 0x60,
+    last: 0x41f,
+}];
+
+// The address of byte `index` of the ranges one after the other.
+fn byte_in<const N: usize>(ranges: &[Range; N], index: u32) -> Option<u16>
+    ensures { result ≡ byte_at ranges.now index }
+{
+    let mut left = index;
+    for range in ranges {
+        let size = (u32::from(range.last) + 1).saturating_sub(u32::from(range.first));
+        if left < size {
+            return Some(range.first + left as u16);
+        }
+        left -= size;
+    }
+    None
+}
+
+/// The bytes of EEPROM.
+pub fn eeprom_have(target: Target) -> u32
+    ensures { result ≡ eeprom_size target }
+{
+    match target {
+        Target::F628 => 128,
+        Target::F877 => 256,
+        Target::Mega16 | Target::Interp | Target::AnsiC => 512,
+    }
+}
+
+/// The words of program flash of a chip: 14 bits each on a PIC, 16 bits on the AVR.
+pub fn flash_words(target: Target) -> Option<u32>
+    ensures { result ≡ flash_size target }
+{
+    match target {
+        Target::F628 => Some(2048),
+        Target::F877 | Target::Mega16 => Some(8192),
+        Target::Interp | Target::AnsiC => None,
+    }
+}
