@@ -1,5 +1,5 @@
 -- What is left of a number at 16 bits.
-use Rattle.std.proofs.Common.{◌≡◌, ℕ, suc, ◌+◌, ◌-◌, ◌*◌, ◌/◌, ◌%◌, ◌<◌, ◌≤◌, ◌^◌, ⊎_elim, inl, inr, ◌⊎◌, ap, sym, ◌∙◌, arith, ℤ, pos, negsuc, ◌+ℤ◌, FitsSigned}
+use Rattle.std.proofs.Common.{◌≡◌, ℕ, suc, ◌+◌, ◌-◌, ◌*◌, ◌/◌, ◌%◌, ◌<◌, ◌≤◌, ⊎_elim, ap, ◌∙◌, arith, ℤ, pos, negsuc, ◌+ℤ◌}
 use Rattle.std.specs.Int.{int_wrap, w16, cast_signed}
 use Rattle.std.proofs.lemmas.Int.{SFits-int_wrap, ints}
 use Rattle.std.proofs.lemmas.Bool.{cases_lt}

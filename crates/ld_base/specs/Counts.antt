@@ -1,5 +1,5 @@
 -- Counts of faults, which never fall.
-use Rattle.std.specs.Prelude.{◌≡◌, ℕ, ◌+◌, ◌-◌, ◌^◌, ◌≤◌, min, Result, Ok, Err, OnErr, IsErrOf}
+use Rattle.std.specs.Prelude.{◌≡◌, ℕ, ◌+◌, ◌-◌, ◌^◌, ◌≤◌, min, Result, IsErrOf}
 use Rattle.ld_base.specs.declared.device.FileFault.{FileFault}
 use Rattle.ld_base.specs.declared.device.FileFault.TheVariants as file
 use Rattle.ld_base.specs.declared.device.OpenFault.{OpenFault}

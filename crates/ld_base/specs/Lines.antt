@@ -1,5 +1,5 @@
 -- A text in lines, and in the pieces between separators.
-use Rattle.std.specs.Prelude.{◌≡◌, ℕ, ◌<◌, ◌==◌, List, [], ◌∷◌, ◌++◌, length, Option, None, Some, if◌then◌else◌, ◌⊎◌, ◌≢◌, All}
+use Rattle.std.specs.Prelude.{◌≡◌, ℕ, ◌<◌, ◌==◌, List, [], ◌∷◌, ◌++◌, length, if◌then◌else◌, ◌⊎◌, ◌≢◌, All}
 
 -- the byte in front of the first piece
 abbrev pub onto : ℕ → List (List ℕ) → List (List ℕ)

@@ -1,5 +1,5 @@
 -- Files in memory: what they hold, what they count, and which of their calls are to fail.
-use Rattle.std.specs.Prelude.{◌≡◌, ℕ, ◌+◌, ◌-◌, ◌^◌, min, Bool, ◌==◌, if◌then◌else◌, List, [], drop, Option, unwrap_or, is_none}
+use Rattle.std.specs.Prelude.{◌≡◌, ℕ, Bool, ◌==◌, List, [], drop, Option, unwrap_or}
 use Rattle.std.specs.List.{list_any}
 use Rattle.ld_base.specs.declared.mem_files.MemFiles.{MemFiles}
 use Rattle.ld_base.specs.Counts.{Counts, one_more}

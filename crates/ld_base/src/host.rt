@@ -6,9 +6,8 @@
 ghost use Rattle.std.specs.Prelude.{◌≡◌, ◌≤◌, ◌<◌, length, IfOk, false, None, []};
 
 use crate::device::{FileFault, Files, OpenFault, Out};
-use std::fs;
 use std::io::{self, ErrorKind, Read, Write};
-use std::rt;
+use std::{fs, rt};
 
 /// The files of the system, under their paths. Nothing is kept back: each write is the system's.
 #[derive(Drop)]

@@ -293,7 +293,14 @@ mod tests {
 
     #[test]
     fn fails_where_it_is_told_to(rt: HostRuntime) -> Result<(), Fail> {
-        for (call, reads, writes) in [(1, 1, 0), (2, 1, 0), (3, 0, 1), (4, 0, 1), (5, 0, 1), (6, 0, 0)] {
+        for (call, reads, writes) in [
+            (1, 1, 0),
+            (2, 1, 0),
+            (3, 0, 1),
+            (4, 0, 1),
+            (5, 0, 1),
+            (6, 0, 0),
+        ] {
             let mut files = MemFiles::new(rt.alloc());
             files.put("source", b"contact")?;
             files.fail_at(call)?;

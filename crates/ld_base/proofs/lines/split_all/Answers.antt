@@ -1,6 +1,5 @@
-use Rattle.std.proofs.Common.{rules, ◌≡◌, ◌++◌, ◌∷◌, [], map, arith, ap, sym, ◌∙◌}
+use Rattle.std.proofs.Common.{arith}
 use Rattle.std.proofs.lemmas.Grind.{common_steps}
-use Rattle.ld_base.specs.Lines.{pieces}
 use Rattle.ld_base.proofs.LineLemmas.{first_piece, pieces-last}
 use Rattle.ld_base.proofs.lines.split_all.Goals as goal
 

@@ -1,6 +1,5 @@
-use Rattle.std.proofs.Common.{rules, ◌≡◌, [], length, refl, take, drop, arith, sym, ◌∙◌, subst, ◌-◌}
+use Rattle.std.proofs.Common.{◌≡◌, [], length, take, drop, arith, ◌-◌}
 use Rattle.std.proofs.lemmas.Grind.{common_steps}
-use Rattle.ld_base.specs.Lines.{IsFirstLine}
 use Rattle.ld_base.proofs.LineLemmas.{line_before, last_line}
 use Rattle.ld_base.proofs.lines.split_line.Goals as goal
 

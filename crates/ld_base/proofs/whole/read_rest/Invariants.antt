@@ -1,4 +1,4 @@
-use Rattle.std.proofs.Common.{◌≡◌, ◌≤◌, true, List, ℕ, ◌++◌, length}
+use Rattle.std.proofs.Common.{◌≡◌, ◌≤◌, true, ◌++◌, length}
 use Rattle.ld_base.specs.Bytes.{SameHeld}
 use Rattle.ld_base.proofs.whole.read_rest.Given as goal
 

@@ -1,9 +1,8 @@
-use Rattle.std.proofs.Common.{rules, ◌≡◌, ap, sym, ◌∙◌, arith, ℤ, pos, subst}
-use Rattle.std.specs.Int.{int_wrap, w16, w64, int_rem_euclid}
-use Rattle.std.proofs.lemmas.Grind.{common_steps}
+use Rattle.std.proofs.Common.{rules, ap, sym, ◌∙◌, pos, subst}
+use Rattle.std.specs.Int.{int_wrap, w64, int_rem_euclid}
 use Rattle.std.proofs.lemmas.Int.{ints, to_z-of_z}
 use Rattle.ld_base.proofs.WrapLemmas.{wraps}
-use Rattle.ld_base.specs.Wrap.{wrap, IsWrapped}
+use Rattle.ld_base.specs.Wrap.{IsWrapped}
 use Rattle.ld_base.proofs.wrap.wrap16.Goals as goal
 
 pub returns-clause-value : goal.returns-clause-value
