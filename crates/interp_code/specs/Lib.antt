@@ -1,0 +1,5 @@
+pub mod Cut
+pub mod Line
+pub mod Text
+pub mod Program
+pub mod Refused

@@ -1,0 +1,7 @@
+//! Interpretable text: a program of operations as lines of words.
+#![tactic(auto)]
+
+mod cut;
+mod op_text;
+pub mod program;
+pub mod write;
