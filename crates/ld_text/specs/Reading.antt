@@ -20,9 +20,9 @@ pub data Place : Type 0 where
   Between : (gs : List Rung) → Place
   Inside : (gs : List Rung) (fs : List Frame) (ns : List Node) → Place
 
--- what is left of the header, or a place below it
+-- in the header, with its next line and those behind, or at a place below it
 pub data State : Type 0 where
-  Above : (left : List (List ℕ)) → State
+  Above : (next : List ℕ) (left : List (List ℕ)) → State
   Below : (p : Place) → State
 
 abbrev pub closed : Circuit → List Node → Node
@@ -44,17 +44,24 @@ after_mark (Inside gs fs ns) (line.Element l) = Some (Inside gs fs (ns ++ Leaf l
 -- with these lines of the header left
 abbrev pub above : List (List ℕ) → State
 above [] = Below (Between [])
-above (h ∷ hs) = Above (h ∷ hs)
+above (h ∷ hs) = Above h hs
 
 abbrev pub step : ℕ → List ℕ → State → Option State
-step number bytes (Above []) = None
-step number bytes (Above (h ∷ hs)) = if bytes_eq bytes h then Some (above hs) else None
+step number bytes (Above h hs) = if bytes_eq bytes h then Some (above hs) else None
 step number bytes (Below p) = option_map Below (option_and_then (after_mark p) (mark_of_line number bytes))
+
+-- before the first line
+abbrev pub start : State
+start = above header_lines
 
 -- behind lines whose first has the number
 abbrev pub run : ℕ → List (List ℕ) → State → Option State
 run number [] s = Some s
 run number (l ∷ ls) s = option_and_then (run (number + 1) ls) (step number l s)
+
+-- behind rungs, with nothing open
+abbrev pub at_rest : List Rung → State
+at_rest gs = Below (Between gs)
 
 -- the rungs, where nothing is left open
 abbrev pub rungs_at : State → Option (List Rung)

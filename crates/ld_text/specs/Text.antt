@@ -45,8 +45,12 @@ pub record IsReadAs (text : List ℕ) (p : Project) : Type 0 where
 abbrev pub IsTextRefusedAt : List ℕ → ℕ → Type 0
 IsTextRefusedAt text line = IsRefusedAt IsProjectText (is_over text) (lines (judged text)) line
 
--- why an error comes: want of memory may always be
+-- why an error comes, where the fault's line is one of these: want of memory may always be
+abbrev pub IsCauseAt : (ℕ → Type 0) → TextError → Type 0
+IsCauseAt IsRefused (Memory e) = ⊤
+IsCauseAt IsRefused (Refused (NotBuilt line)) = IsRefused line
+IsCauseAt IsRefused (Refused _) = ⊥
+
+-- why an error comes
 abbrev pub IsCause : List ℕ → TextError → Type 0
-IsCause text (Memory e) = ⊤
-IsCause text (Refused (NotBuilt line)) = IsTextRefusedAt text line
-IsCause text (Refused _) = ⊥
+IsCause text e = IsCauseAt (IsTextRefusedAt text) e

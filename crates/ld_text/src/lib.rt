@@ -5,4 +5,5 @@ pub mod fault;
 mod header;
 pub mod mark;
 mod name;
+pub mod read;
 mod reader;
