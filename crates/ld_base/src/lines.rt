@@ -1,7 +1,7 @@
 //! Texts in lines, and lines in pieces.
 
 ghost use Rattle.std.specs.Prelude.{◌≡◌, ◌≢◌, ◌+◌, ◌++◌, ◌∷◌, [], take, drop, map, IfOk, IfSome, IfNone, IsNone, All, ◌↔◌};
-ghost use Rattle.ld_base.specs.Lines.{lines, pieces, joined, IsFirstLine, IsFirstPiece};
+ghost use Rattle.ld_base.specs.Lines.{pieces, IsFirstLine, IsFirstPiece};
 
 use std::alloc::{AllocError, Global};
 

@@ -1,6 +1,6 @@
 //! Files in memory, which fail at the calls that they are told to.
 
-ghost use Rattle.std.specs.Prelude.{◌≡◌, ℕ, List, true, false, Some, None, Ok, Err, OnOk, OnErr, IfOk, is_ok, length, take, drop, min, [], ◌∷◌, ◌++◌, ◌+◌, ◌^◌, ◌<◌, ◌≤◌, IsErrOf, ◌↔◌, if◌then◌else◌, is_some};
+ghost use Rattle.std.specs.Prelude.{◌≡◌, ℕ, List, true, false, Some, None, Ok, Err, OnOk, OnErr, IfOk, is_ok, length, take, drop, min, [], ◌∷◌, ◌++◌, ◌+◌, ◌^◌, ◌<◌, IsErrOf, ◌↔◌, if◌then◌else◌, is_some};
 ghost use Rattle.ld_base.specs.Bytes.{SameHeld, HoldsThen, Grows};
 ghost use Rattle.ld_base.specs.Counts.{one_more, read_failed, absent, write_failed, OpenCounts, ReadCounts, WriteCounts};
 ghost use Rattle.ld_base.specs.Entries.{now_of};

@@ -1,6 +1,6 @@
 //! An output in memory, which fails at the calls that it is told to.
 
-ghost use Rattle.std.specs.Prelude.{◌≡◌, ◌++◌, ◌∷◌, [], ◌<◌, ◌≤◌, length, take, Err, IsErrOf, ◌↔◌, OnOk, OnErr, IfOk, if◌then◌else◌, true, false};
+ghost use Rattle.std.specs.Prelude.{◌≡◌, ◌++◌, ◌∷◌, [], ◌<◌, length, take, Err, IsErrOf, ◌↔◌, OnOk, OnErr, IfOk, if◌then◌else◌, true};
 ghost use Rattle.ld_base.specs.Counts.{one_more, OutCount};
 
 use crate::device::{FileFault, Out};

@@ -1,7 +1,7 @@
 //! Whole pieces, and whole files.
 
-ghost use Rattle.std.specs.Prelude.{◌≡◌, ℕ, ◌+◌, ◌^◌, ◌<◌, ◌≤◌, true, List, [], ◌++◌, length, take, Some, None, is_ok, OnOk, IfOk, IsErrOf};
-ghost use Rattle.ld_base.specs.Counts.{Rose, OpenCounts, ReadCounts, WriteCounts, OutCount};
+ghost use Rattle.std.specs.Prelude.{◌≡◌, ℕ, ◌+◌, ◌^◌, ◌<◌, true, List, ◌++◌, length, take, Some, None, OnOk, IfOk, IsErrOf};
+ghost use Rattle.ld_base.specs.Counts.{OpenCounts, ReadCounts, WriteCounts, OutCount};
 ghost use Rattle.ld_base.specs.Bytes.{SameHeld, Grows};
 
 use crate::device::{FileFault, Files, OpenFault, Out};
