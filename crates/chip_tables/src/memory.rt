@@ -1,5 +1,5 @@
-ghost use Rattle.std.specs.Prelude.{◌≡◌, ◌<◌, ◌↔◌, Some, None, IsSome, sum_by};
-ghost use Rattle.chip_tables.specs.Memory.{ram_size, eeprom_size, flash_size, ram_ranges, ram_address, byte_at, size};
+ghost use Rattle.std.specs.Prelude.{ℕ, ◌≡◌, ◌<◌, ◌↔◌, Some, None, IsSome, IfSome, sum_by};
+ghost use Rattle.chip_tables.specs.Memory.{ram_size, eeprom_size, flash_size, ram_ranges, ram_address, IsRam, byte_at, size};
 
 use crate::target::Target;
 
@@ -26,6 +26,17 @@ pub fn ram_have(target: Target) -> u32
 /// The address in data memory of byte `index` of the bytes that hold variables and bits: the
 /// ranges of the chip one after the other. On a PIC the two high bits of the address are the bank.
 pub fn ram_byte(target: Target, index: u32) -> Option<u16>
+    ensures value { result ≡ ram_address target index }
+    ensures within { IsSome result ↔ (index < sum_by size (ram_ranges target)) }
+    ensures in_ram { IfSome result (IsRam target) }
+
+    // No other byte stands at the same address.
+    ensures alone { IfSome result (λ address. (other : ℕ) → ram_address target other ≡ Some address → other ≡ index) }
+{
+    address_of(target, index)
+}
+
+fn address_of(target: Target, index: u32) -> Option<u16>
     ensures value { result ≡ ram_address target index }
     ensures within { IsSome result ↔ (index < sum_by size (ram_ranges target)) }
 {
