@@ -48,44 +48,29 @@ fn address_of(target: Target, index: u32) -> Option<u16>
     }
 }
 
-const F628_RAM: [Range; 3] = [
-    Range {
-        first: 0x20,
-        last: 0x6f,
-    },
-    Range {
-        first: 0xa0,
-        last: 0xef,
-    },
-    Range {
-        first: 0x120,
-        last: 0x14f,
-    },
-];
+// A table of ranges, each as its first address and its last.
+macro_rules! ranges {
+    ($($first:literal $last:literal,)*) => {
+        [$(Range { first: $first, last: $last }),*]
+    };
+}
 
-const F877_RAM: [Range; 4] = [
-    Range {
-        first: 0x20,
-        last: 0x6f,
-    },
-    Range {
-        first: 0xa0,
-        last: 0xef,
-    },
-    Range {
-        first: 0x110,
-        last: 0x16f,
-    },
-    Range {
-        first: 0x190,
-        last: 0x1ef,
-    },
-];
+const F628_RAM: [Range; 3] = ranges! {
+    0x20 0x6f,
+    0xa0 0xef,
+    0x120 0x14f,
+};
 
-const MEGA16_RAM: [Range; 1] = [Range {
-    first: 0x60,
-    last: 0x41f,
-}];
+const F877_RAM: [Range; 4] = ranges! {
+    0x20 0x6f,
+    0xa0 0xef,
+    0x110 0x16f,
+    0x190 0x1ef,
+};
+
+const MEGA16_RAM: [Range; 1] = ranges! {
+    0x60 0x41f,
+};
 
 // The address of byte `index` of the ranges one after the other.
 fn byte_in<const N: usize>(ranges: &[Range; N], index: u32) -> Option<u16>
