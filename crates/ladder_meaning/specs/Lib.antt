@@ -1,0 +1,4 @@
+pub mod State
+pub mod Element
+pub mod Node
+pub mod Cycle

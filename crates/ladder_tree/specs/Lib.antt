@@ -1,0 +1,4 @@
+pub mod Induct
+pub mod Leaves
+pub mod Names
+pub mod Size

@@ -1,0 +1,102 @@
+-- The names of a project: each list holds the names of a kind by first appearance.
+use Rattle.std.specs.Prelude.{ℕ, ◌+◌, Bool, true, false, not, ◌&&◌, ◌||◌, ◌==◌, List, [], ◌∷◌, ◌++◌, length, nat_eq, nat_le, slice_index_or, filter, if◌then◌else◌}
+use Rattle.std.specs.List.{list_any, list_all}
+use Rattle.std.specs.Str.{bytes_eq}
+use Rattle.ladder_tree.specs.declared.element.Leaf as leaf
+use Rattle.ladder_tree.specs.declared.element.LeafKind.{LeafKind}
+use Rattle.ladder_tree.specs.declared.element.LeafKind.TheVariants.{Contacts, Coil, Osr, Osf, Counter, Shift}
+use Rattle.ladder_tree.specs.declared.project.Rung.{Rung}
+use Rattle.ladder_tree.specs.declared.names.Names.{Names}
+use Rattle.ladder_tree.specs.Leaves.{all_leaves}
+
+-- a name's first letter tells what it is: 88 is X, 89 is Y, 82 is R
+abbrev pub begins_with : ℕ → List ℕ → Bool
+begins_with letter name = nat_eq (slice_index_or name 0 0) letter
+
+abbrev pub is_input : List ℕ → Bool
+is_input name = begins_with 88 name
+
+abbrev pub is_output : List ℕ → Bool
+is_output name = begins_with 89 name
+
+abbrev pub is_relay : List ℕ → Bool
+is_relay name = begins_with 82 name
+
+abbrev pub is_letter : ℕ → Bool
+is_letter b = (nat_le 65 b && nat_le b 90) || (nat_le 97 b && nat_le b 122)
+
+abbrev pub is_digit : ℕ → Bool
+is_digit b = nat_le 48 b && nat_le b 57
+
+-- 95 is _
+abbrev pub is_name_byte : ℕ → Bool
+is_name_byte b = is_letter b || (is_digit b || b == 95)
+
+-- 1 to so many letters, digits or _, not beginning with a digit
+abbrev pub is_name_within : ℕ → List ℕ → Bool
+is_name_within most [] = false
+is_name_within most (b ∷ bs) = not (is_digit b) && (list_all is_name_byte (b ∷ bs) && nat_le (length (b ∷ bs)) most)
+
+-- a name of a project
+abbrev pub is_name : List ℕ → Bool
+is_name name = is_name_within 64 name
+
+-- the bit that an element names
+abbrev pub bit_names : LeafKind → List (List ℕ)
+bit_names (Contacts name neg) = name ∷ []
+bit_names (Coil name mode) = name ∷ []
+bit_names _ = []
+
+-- the bits that elements name, in file order
+abbrev pub all_bits : List leaf.Leaf → List (List ℕ)
+all_bits [] = []
+all_bits (l ∷ ls) = bit_names l.kind ++ all_bits ls
+
+-- all appearances of bits of a kind
+abbrev pub appearances : (List ℕ → Bool) → List leaf.Leaf → List (List ℕ)
+appearances is_kind ls = filter is_kind (all_bits ls)
+
+-- each name once, where it first appears
+abbrev pub firsts_from : List (List ℕ) → List (List ℕ) → List (List ℕ)
+firsts_from seen [] = seen
+firsts_from seen (n ∷ ns) = if list_any (bytes_eq n) seen then firsts_from seen ns else firsts_from (seen ++ n ∷ []) ns
+
+abbrev pub firsts : List (List ℕ) → List (List ℕ)
+firsts names = firsts_from [] names
+
+-- how many memory bits an element has
+abbrev pub memories : LeafKind → ℕ
+memories Osr = 1
+memories Osf = 1
+memories (Counter how name max) = 1
+memories (Shift name places) = 1
+memories _ = 0
+
+abbrev pub memories_in : List leaf.Leaf → ℕ
+memories_in [] = 0
+memories_in (l ∷ ls) = memories l.kind + memories_in ls
+
+-- Contacts and coils are the elements whose names are listed yet, so there are no variables.
+abbrev pub names_of : List Rung → Names
+names_of gs = record {
+  inputs = firsts (appearances is_input (all_leaves gs));
+  outputs = firsts (appearances is_output (all_leaves gs));
+  relays = firsts (appearances is_relay (all_leaves gs));
+  variables = [];
+  analog = [];
+  persistent = [];
+  memories = memories_in (all_leaves gs);
+}
+
+-- A contact's name begins with X, Y or R, and a coil's with Y or R.
+abbrev pub has_kind : LeafKind → Bool
+has_kind (Contacts name neg) = is_input name || (is_output name || is_relay name)
+has_kind (Coil name mode) = is_output name || is_relay name
+has_kind _ = true
+
+-- Each bit that elements name is a name, and of its element's kind.
+abbrev pub is_well_named : LeafKind → Bool
+is_well_named k = has_kind k && list_all is_name (bit_names k)
+
+abbrev pub all_well_named : List leaf.Leaf → Bool
+all_well_named ls = list_all (λ l. is_well_named l.kind) ls

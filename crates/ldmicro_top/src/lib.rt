@@ -1,0 +1,5 @@
+//! The top call: what the words of the command line ask for is done over any files and any output.
+#![tactic(auto)]
+
+pub mod report;
+pub mod status;
