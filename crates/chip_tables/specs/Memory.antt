@@ -1,5 +1,6 @@
 -- The memories of each target: RAM for variables and bits, EEPROM, program flash.
-use Rattle.std.specs.Prelude.{ℕ, ◌+◌, ◌-◌, nat_lt, if◌then◌else◌, List, [], ◌∷◌, Option, Some, None, sum_by}
+use Rattle.std.specs.Prelude.{ℕ, ◌+◌, ◌-◌, nat_lt, nat_le, ◌&&◌, Bool, IsTrue, if◌then◌else◌, List, [], ◌∷◌, Option, Some, None, sum_by}
+use Rattle.std.specs.List.{list_any}
 use Rattle.chip_tables.specs.declared.memory.Range.{Range}
 use Rattle.chip_tables.specs.declared.target.Target.{Target}
 use Rattle.chip_tables.specs.declared.target.Target.TheVariants.{F628, F877, Mega16, Interp, AnsiC}
@@ -9,6 +10,9 @@ range first last = record { first = first; last = last }
 
 abbrev pub size : Range → ℕ
 size r = r.last + 1 - r.first
+
+abbrev pub holds : ℕ → Range → Bool
+holds address r = nat_le r.first address && nat_le address r.last
 
 -- the file registers and the SRAM that hold variables and bits, in this order.
 -- PIC16F62X data sheet, "Data Memory Organization"; PIC16F87X data sheet, figure 2-3;
@@ -37,6 +41,9 @@ byte_at (r ∷ rs) index =
 
 abbrev pub ram_address : Target → ℕ → Option ℕ
 ram_address target index = byte_at (ram_ranges target) index
+
+abbrev pub IsRam : Target → ℕ → Type 0
+IsRam target address = IsTrue (list_any (holds address) (ram_ranges target))
 
 -- bytes; PIC16F62X and PIC16F87X data sheets, "Data EEPROM Memory"; ATmega16 data sheet, "EEPROM
 -- Data Memory"; a target that is no chip has the most of any chip

@@ -46,6 +46,14 @@ io_pins Mega16 =
 io_pins Interp = []
 io_pins AnsiC = []
 
+-- the ports from A on
+abbrev pub port_count : Target → ℕ
+port_count F628 = 2
+port_count F877 = 5
+port_count Mega16 = 4
+port_count Interp = 0
+port_count AnsiC = 0
+
 abbrev pub is_at : ℕ → PinRow → Bool
 is_at pin r = r.pin == pin
 

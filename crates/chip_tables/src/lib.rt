@@ -18,3 +18,6 @@ pub use settings::{
     BaudSetting, PwmSetting, Settings, TimerSetting, baud_setting, pwm_setting, timer_setting,
 };
 pub use target::Target;
+
+#[cfg(test)]
+mod tests;

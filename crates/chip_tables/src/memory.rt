@@ -1,5 +1,5 @@
-ghost use Rattle.std.specs.Prelude.{◌≡◌, ◌<◌, ◌↔◌, Some, None, IsSome, sum_by};
-ghost use Rattle.chip_tables.specs.Memory.{ram_size, eeprom_size, flash_size, ram_ranges, ram_address, byte_at, size};
+ghost use Rattle.std.specs.Prelude.{ℕ, ◌≡◌, ◌<◌, ◌↔◌, Some, None, IsSome, IfSome, sum_by};
+ghost use Rattle.chip_tables.specs.Memory.{ram_size, eeprom_size, flash_size, ram_ranges, ram_address, IsRam, byte_at, size};
 
 use crate::target::Target;
 
@@ -28,6 +28,17 @@ pub fn ram_have(target: Target) -> u32
 pub fn ram_byte(target: Target, index: u32) -> Option<u16>
     ensures value { result ≡ ram_address target index }
     ensures within { IsSome result ↔ (index < sum_by size (ram_ranges target)) }
+    ensures in_ram { IfSome result (IsRam target) }
+
+    // No other byte stands at the same address.
+    ensures alone { IfSome result (λ address. (other : ℕ) → ram_address target other ≡ Some address → other ≡ index) }
+{
+    address_of(target, index)
+}
+
+fn address_of(target: Target, index: u32) -> Option<u16>
+    ensures value { result ≡ ram_address target index }
+    ensures within { IsSome result ↔ (index < sum_by size (ram_ranges target)) }
 {
     match target {
         Target::F628 => byte_in(&F628_RAM, index),
@@ -37,44 +48,29 @@ pub fn ram_byte(target: Target, index: u32) -> Option<u16>
     }
 }
 
-const F628_RAM: [Range; 3] = [
-    Range {
-        first: 0x20,
-        last: 0x6f,
-    },
-    Range {
-        first: 0xa0,
-        last: 0xef,
-    },
-    Range {
-        first: 0x120,
-        last: 0x14f,
-    },
-];
+// A table of ranges, each as its first address and its last.
+macro_rules! ranges {
+    ($($first:literal $last:literal,)*) => {
+        [$(Range { first: $first, last: $last }),*]
+    };
+}
 
-const F877_RAM: [Range; 4] = [
-    Range {
-        first: 0x20,
-        last: 0x6f,
-    },
-    Range {
-        first: 0xa0,
-        last: 0xef,
-    },
-    Range {
-        first: 0x110,
-        last: 0x16f,
-    },
-    Range {
-        first: 0x190,
-        last: 0x1ef,
-    },
-];
+const F628_RAM: [Range; 3] = ranges! {
+    0x20 0x6f,
+    0xa0 0xef,
+    0x120 0x14f,
+};
 
-const MEGA16_RAM: [Range; 1] = [Range {
-    first: 0x60,
-    last: 0x41f,
-}];
+const F877_RAM: [Range; 4] = ranges! {
+    0x20 0x6f,
+    0xa0 0xef,
+    0x110 0x16f,
+    0x190 0x1ef,
+};
+
+const MEGA16_RAM: [Range; 1] = ranges! {
+    0x60 0x41f,
+};
 
 // The address of byte `index` of the ranges one after the other.
 fn byte_in<const N: usize>(ranges: &[Range; N], index: u32) -> Option<u16>

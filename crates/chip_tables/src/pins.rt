@@ -1,5 +1,5 @@
-ghost use Rattle.std.specs.Prelude.{◌≡◌, ◌==◌, ◌<◌, IfSome, position};
-ghost use Rattle.chip_tables.specs.Pins.{is_at, port_bit_in, port_bit_at, channel_at, rx_at, tx_at, pwm_at};
+ghost use Rattle.std.specs.Prelude.{ℕ, ◌≡◌, ◌==◌, ◌<◌, Some, IfSome, position};
+ghost use Rattle.chip_tables.specs.Pins.{is_at, port_bit_in, port_bit_at, port_count, channel_at, rx_at, tx_at, pwm_at};
 
 use crate::target::Target;
 
@@ -27,6 +27,16 @@ pub fn row_of_pin<const N: usize>(rows: &[PinRow; N], pin: u16) -> Option<usize>
 
 /// The port bit of an I/O pin. A pin that is for power, the clock or the reset has none.
 pub fn pin_of(target: Target, pin: u16) -> Option<PortBit>
+    ensures value { result ≡ port_bit_at target pin }
+    ensures in_ports { IfSome result (λ b. (b.port < port_count target) × (b.bit < 8)) }
+
+    // No other pin carries the same bit.
+    ensures alone { IfSome result (λ b. (other : ℕ) → port_bit_at target other ≡ Some b → other ≡ pin) }
+{
+    bit_of_pin(target, pin)
+}
+
+fn bit_of_pin(target: Target, pin: u16) -> Option<PortBit>
     ensures { result ≡ port_bit_at target pin }
 {
     match target {
@@ -51,6 +61,16 @@ fn port_bit<const N: usize>(rows: &[PinRow; N], pin: u16) -> Option<PortBit>
 
 /// The channel of the analog-to-digital converter whose input is the pin.
 pub fn adc_channel(target: Target, pin: u16) -> Option<u8>
+    ensures value { result ≡ channel_at target pin }
+    ensures in_channels { IfSome result (λ channel. channel < 8) }
+
+    // No other pin is the input of the same channel.
+    ensures alone { IfSome result (λ channel. (other : ℕ) → channel_at target other ≡ Some channel → other ≡ pin) }
+{
+    channel_of_pin(target, pin)
+}
+
+fn channel_of_pin(target: Target, pin: u16) -> Option<u8>
     ensures { result ≡ channel_at target pin }
 {
     match target {

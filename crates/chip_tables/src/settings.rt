@@ -45,6 +45,13 @@ struct Prescaler {
     control: u8,
 }
 
+// A table of prescalers, each as its ratio and the value that selects it.
+macro_rules! prescalers {
+    ($($ratio:literal $control:literal,)*) => {
+        [$(Prescaler { ratio: $ratio, control: $control }),*]
+    };
+}
+
 /// The cycle timer at a cycle time in microseconds and a crystal in hertz. A cycle takes
 /// `compare + 1` ticks, which is the cycle time rounded down to whole ticks.
 pub fn timer_setting(target: Target, cycle: u32, hz: u32) -> Option<TimerSetting>
@@ -57,47 +64,20 @@ pub fn timer_setting(target: Target, cycle: u32, hz: u32) -> Option<TimerSetting
     }
 }
 
-const PIC_TIMER: [Prescaler; 4] = [
-    Prescaler {
-        ratio: 1,
-        control: 0x01,
-    },
-    Prescaler {
-        ratio: 2,
-        control: 0x11,
-    },
-    Prescaler {
-        ratio: 4,
-        control: 0x21,
-    },
-    Prescaler {
-        ratio: 8,
-        control: 0x31,
-    },
-];
+const PIC_TIMER: [Prescaler; 4] = prescalers! {
+    1 0x01,
+    2 0x11,
+    4 0x21,
+    8 0x31,
+};
 
-const AVR_TIMER: [Prescaler; 5] = [
-    Prescaler {
-        ratio: 1,
-        control: 0x09,
-    },
-    Prescaler {
-        ratio: 8,
-        control: 0x0a,
-    },
-    Prescaler {
-        ratio: 64,
-        control: 0x0b,
-    },
-    Prescaler {
-        ratio: 256,
-        control: 0x0c,
-    },
-    Prescaler {
-        ratio: 1024,
-        control: 0x0d,
-    },
-];
+const AVR_TIMER: [Prescaler; 5] = prescalers! {
+    1 0x09,
+    8 0x0a,
+    64 0x0b,
+    256 0x0c,
+    1024 0x0d,
+};
 
 // The first prescaler for which a cycle's ticks fit the timer's 16 bits, where there is a tick.
 fn first_timer<const N: usize>(
@@ -144,11 +124,11 @@ pub fn baud_setting(target: Target, hz: u32, baud: u32) -> Option<BaudSetting>
         return None;
     }
     match target {
-        Target::F628 | Target::F877 => divisor(256, true, nearest(hz, baud, 16)).or(divisor(
-            256,
-            false,
-            nearest(hz, baud, 64),
-        )),
+        Target::F628 | Target::F877 => {
+            let fast = divisor(256, true, nearest(hz, baud, 16));
+            let slow = divisor(256, false, nearest(hz, baud, 64));
+            fast.or(slow)
+        }
         Target::Mega16 => divisor(4096, false, nearest(hz, baud, 16)),
         Target::Interp | Target::AnsiC => None,
     }
@@ -194,51 +174,21 @@ pub fn pwm_setting(target: Target, hz: u32, freq: u32) -> Option<PwmSetting>
     }
 }
 
-const PIC_PWM: [Prescaler; 3] = [
-    Prescaler {
-        ratio: 1,
-        control: 0x04,
-    },
-    Prescaler {
-        ratio: 4,
-        control: 0x05,
-    },
-    Prescaler {
-        ratio: 16,
-        control: 0x06,
-    },
-];
+const PIC_PWM: [Prescaler; 3] = prescalers! {
+    1 0x04,
+    4 0x05,
+    16 0x06,
+};
 
-const AVR_PWM: [Prescaler; 7] = [
-    Prescaler {
-        ratio: 1,
-        control: 0x69,
-    },
-    Prescaler {
-        ratio: 8,
-        control: 0x6a,
-    },
-    Prescaler {
-        ratio: 32,
-        control: 0x6b,
-    },
-    Prescaler {
-        ratio: 64,
-        control: 0x6c,
-    },
-    Prescaler {
-        ratio: 128,
-        control: 0x6d,
-    },
-    Prescaler {
-        ratio: 256,
-        control: 0x6e,
-    },
-    Prescaler {
-        ratio: 1024,
-        control: 0x6f,
-    },
-];
+const AVR_PWM: [Prescaler; 7] = prescalers! {
+    1 0x69,
+    8 0x6a,
+    32 0x6b,
+    64 0x6c,
+    128 0x6d,
+    256 0x6e,
+    1024 0x6f,
+};
 
 // The first prescaler for which a PIC's period is at most 255 ticks, where it is 2 at least.
 fn pic_period<const N: usize>(prescalers: &[Prescaler; N], hz: u32, freq: u32) -> Option<PwmSetting>
@@ -273,8 +223,9 @@ fn topped(control: u8, ticks: u64) -> Option<PwmSetting>
 fn avr_period<const N: usize>(prescalers: &[Prescaler; N], hz: u32, freq: u32) -> Option<PwmSetting>
     ensures { result ≡ avr_pwm_among prescalers.now hz freq }
 {
-    let chosen = prescalers.iter().find(|p| u64::from(hz)
-        <= 256 * u64::from(p.ratio) * u64::from(freq))?;
+    let clocks = u64::from(hz);
+    let fits = |p: &Prescaler| clocks <= 256 * u64::from(p.ratio) * u64::from(freq);
+    let chosen = prescalers.iter().find(|p| fits(p))?;
     Some(PwmSetting {
         control: chosen.control,
         top: 255,

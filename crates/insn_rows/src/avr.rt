@@ -4,7 +4,7 @@ ghost use Rattle.insn_rows.specs.Avr.{avr_rows, avr_kind_of};
 
 use crate::rows::{InsnRow, find_row};
 
-/// The instructions of the AVR that the compiler's code is made of.
+/// The instructions of the table, by their names in the AVR Instruction Set Manual.
 #[derive(Clone, Copy, Debug, PartialEq, Eq)]
 pub enum AvrKind {
     /// ADD: add.
