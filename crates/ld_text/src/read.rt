@@ -11,7 +11,7 @@ ghost use Rattle.ld_text.specs.Text.{IsProject, IsProjectText, IsReadAs, IsCause
 
 use crate::fault::{ProjectFault, TextError};
 use crate::reader::Reader;
-use chip_tables::target::Target;
+use chip_tables::Target;
 use ladder_tree::project::{PinList, Project, Rungs};
 use ld_base::lines::split_line;
 use std::alloc::Global;
