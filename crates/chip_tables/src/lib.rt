@@ -1,4 +1,23 @@
-//! The chips' facts as tables.
+//! The facts of the chips as tables: pins, memories, settings of the devices, and costs.
 #![tactic(auto)]
 
-pub mod target;
+mod cost_kind;
+mod cost_table;
+mod memory;
+mod outside;
+mod pins;
+mod settings;
+mod target;
+
+pub use cost_kind::{Cost, CostKind};
+pub use cost_table::cost;
+pub use memory::{eeprom_have, flash_words, ram_byte, ram_have};
+pub use outside::{Env, PinReading, Poll, StepEnd, StuckAt, StuckCause, Went};
+pub use pins::{PinRow, PortBit, adc_channel, pin_of, pwm_pin, row_of_pin, rx_pin, tx_pin};
+pub use settings::{
+    BaudSetting, PwmSetting, Settings, TimerSetting, baud_setting, pwm_setting, timer_setting,
+};
+pub use target::Target;
+
+#[cfg(test)]
+mod tests;

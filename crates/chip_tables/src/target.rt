@@ -1,11 +1,14 @@
-//! What a project can be compiled for.
-
-/// What a project is compiled for: one of three chips, an interpretable text, or ANSI C.
+/// What a ladder program is compiled for.
 #[derive(Clone, Copy, Debug, PartialEq, Eq)]
 pub enum Target {
+    /// Microchip PIC16F628 in its 18-pin package.
     F628,
+    /// Microchip PIC16F877 in its 40-pin package.
     F877,
+    /// Atmel ATmega16 in its 40-pin package.
     Mega16,
+    /// Text for an interpreter.
     Interp,
+    /// C text for any compiler.
     AnsiC,
 }

@@ -1,1 +1,5 @@
+pub mod CutLemmas
+pub mod TextLemmas
+pub mod ReadsBack
+pub mod WholeText
 pub mod LevelLemmas

@@ -1,5 +1,8 @@
-//! Interpretable text: a program of operations, and its run.
+//! Interpretable texts: a program of operations as lines of words, and the machine that runs it.
 #![tactic(auto)]
 
+mod cut;
 pub mod machine;
+mod op_text;
 pub mod program;
+pub mod write;

@@ -2,5 +2,6 @@
 #![tactic(auto)]
 
 pub mod element;
+pub mod leaves;
 pub mod names;
 pub mod project;

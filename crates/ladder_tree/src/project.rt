@@ -1,7 +1,7 @@
 //! Projects: rungs of elements in series and in parallel.
 
 use crate::element::{Leaf, Name};
-use chip_tables::target::Target;
+use chip_tables::Target;
 use ld_base::list::List;
 use sqlite_items::Items;
 

@@ -1,0 +1,4 @@
+pub mod GrowLemmas
+pub mod EntryLemmas
+pub mod WrapLemmas
+pub mod LineLemmas

@@ -1,17 +1,38 @@
--- The lines of a text, and the pieces of a line.
-use Rattle.std.specs.Prelude.{ℕ, List, [], ◌∷◌, ◌==◌, if◌then◌else◌}
+-- A text in lines, and in the pieces between separators.
+use Rattle.std.specs.Prelude.{◌≡◌, ℕ, ◌<◌, ◌==◌, List, [], ◌∷◌, ◌++◌, length, if◌then◌else◌, ◌⊎◌, ◌≢◌, All}
 
--- a byte in front of the first of some texts
-abbrev pub in_front : ℕ → List (List ℕ) → List (List ℕ)
-in_front b [] = (b ∷ []) ∷ []
-in_front b (l ∷ ls) = (b ∷ l) ∷ ls
+-- the byte in front of the first piece
+abbrev pub onto : ℕ → List (List ℕ) → List (List ℕ)
+onto x [] = (x ∷ []) ∷ []
+onto x (piece ∷ pieces) = (x ∷ piece) ∷ pieces
 
--- A line ends at a line feed, which is no part of it. Bytes behind the last line feed are a line if there are any.
+-- Each line feed (10) ends a line, which is shown without it. Bytes behind the last line feed are a line too.
 abbrev pub lines : List ℕ → List (List ℕ)
 lines [] = []
-lines (b ∷ bs) = if b == 10 then [] ∷ lines bs else in_front b (lines bs)
+lines (x ∷ xs) = if x == 10 then [] ∷ lines xs else onto x (lines xs)
 
--- A text cut at each separator: one piece more than there are separators.
+-- what stands between the separators: a piece more than there are separators, and any may be empty
 abbrev pub pieces : ℕ → List ℕ → List (List ℕ)
-pieces s [] = [] ∷ []
-pieces s (b ∷ bs) = if b == s then [] ∷ pieces s bs else in_front b (pieces s bs)
+pieces separator [] = [] ∷ []
+pieces separator (x ∷ xs) = if x == separator then [] ∷ pieces separator xs else onto x (pieces separator xs)
+
+-- the bytes have no line feed
+abbrev pub IsLine : List ℕ → Type 0
+IsLine bytes = All (λ x. x ≢ 10) bytes
+
+-- a line feed behind each line
+abbrev pub joined : List (List ℕ) → List ℕ
+joined [] = []
+joined (line ∷ lines) = line ++ 10 ∷ joined lines
+
+-- the first line of a text, and what lies behind it: behind its line feed, or nothing
+pub record IsFirstLine (text line rest : List ℕ) : Type 0 where
+  pub lines : lines text ≡ line ∷ lines rest
+  pub clean : IsLine line
+  pub parts : (text ≡ line ++ 10 ∷ rest) ⊎ ((text ≡ line) × (rest ≡ []))
+  pub shorter : length rest < length text
+
+-- the first piece of a text, and what lies behind its separator
+pub record IsFirstPiece (separator : ℕ) (text piece rest : List ℕ) : Type 0 where
+  pub parts : text ≡ piece ++ separator ∷ rest
+  pub clean : All (λ x. x ≢ separator) piece

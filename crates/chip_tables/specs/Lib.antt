@@ -1,0 +1,4 @@
+pub mod Cost
+pub mod Memory
+pub mod Pins
+pub mod Settings

@@ -1,0 +1,2 @@
+pub mod Avr
+pub mod Rows

@@ -1,0 +1,83 @@
+-- The text of a program says the program.
+use Rattle.std.proofs.Common.{◌≡◌, ℕ, true, List, [], ◌∷◌, ◌++◌, map, Some, refl, ap, ◌∙◌, append_assoc, arith, All}
+use Rattle.std.proofs.lemmas.List.Elements.{All-head, All-tail}
+use Rattle.std.specs.List.{list_all}
+use Rattle.ld_base.specs.Lines.{lines}
+use Rattle.ladder_tree.specs.declared.names.Names.{Names}
+use Rattle.ladder_tree.specs.Names.{is_name_within}
+use Rattle.int_code.specs.declared.op.IntOp.{IntOp}
+use Rattle.int_code.specs.declared.op.IntProgram.{IntProgram}
+use Rattle.int_code.specs.WellFormed.{Sizes, IsInRange, sizes_of}
+use Rattle.interp_code.specs.Line.{Line, Input, Output, Relay, Operation, End, line_of}
+use Rattle.interp_code.specs.Text.{joined, line_text, spelled, interp_text}
+use Rattle.interp_code.specs.Program.{IsWritable, IsProgram, read_as}
+use Rattle.interp_code.proofs.CutLemmas.{lines-line}
+use Rattle.interp_code.proofs.ReadsBack.{Reads, IsSmall, from_lacks, and_left, and_right, magic_reads, cycle_reads, input_reads, output_reads, relay_reads, bits_reads, code_reads, op_reads, end_reads}
+
+-- each of the lines reads back
+abbrev pub AllRead : List Line → Type 0
+AllRead [] = Unit {0}
+AllRead (l ∷ ls) = Reads l × AllRead ls
+
+pub AllRead-append : (a b : List Line) → AllRead a → AllRead b → AllRead (a ++ b)
+AllRead-append [] b ha hb = hb
+AllRead-append (l ∷ ls) b ha hb = (ha.0, AllRead-append ls b ha.1 hb)
+
+names_read : (f : List ℕ → Line) → ((n : List ℕ) → is_name_within 66 n ≡ true → Reads (f n)) → (ns : List (List ℕ)) → list_all (is_name_within 66) ns ≡ true → AllRead (map f ns)
+names_read f each [] h = tt
+names_read f each (n ∷ ns) h = (each n (and_left (is_name_within 66 n) (list_all (is_name_within 66) ns) h), names_read f each ns (and_right (is_name_within 66 n) (list_all (is_name_within 66) ns) h))
+
+ops_read : (n : Sizes) → IsSmall n → (ops : List IntOp) → All (IsInRange n) ops → AllRead (map Operation ops)
+ops_read n small [] h = tt
+ops_read n small (op ∷ ops) h = (op_reads n small op (All-head (IsInRange n) op ops h), ops_read n small ops (All-tail (IsInRange n) op ops h))
+
+pub spelled_reads : (cycle : ℕ) (names : Names) (program : IntProgram) → IsWritable cycle names program → IsSmall (sizes_of program) → AllRead (spelled cycle names program)
+spelled_reads cycle names program w small = (
+  magic_reads,
+  (
+    cycle_reads cycle w.timed,
+    AllRead-append (map Input names.inputs) _ (names_read Input input_reads names.inputs w.inputs)
+        (AllRead-append (map Output names.outputs) _ (names_read Output output_reads names.outputs w.outputs)
+        (AllRead-append (map Relay names.relays) _ (names_read Relay relay_reads names.relays w.relays) (
+          bits_reads program.bits w.bits,
+          (
+            code_reads,
+            AllRead-append (map Operation program.ops) (End ∷ []) (ops_read (sizes_of program) small program.ops w.sound.well_formed.range) (end_reads, tt),
+          ),
+        ))),
+  ),
+)
+
+pub joined_reads : (ls : List Line) → AllRead ls → map line_of (lines (joined (map line_text ls))) ≡ map Some ls
+joined_reads [] h = refl
+joined_reads (l ∷ ls) h =
+    ap (map line_of) (lines-line (line_text l) (joined (map line_text ls)) (from_lacks 10 (line_text l) h.0.clean))
+    ∙ ap (λ o. o ∷ map line_of (lines (joined (map line_text ls)))) h.0.of
+    ∙ ap (λ os. Some l ∷ os) (joined_reads ls h.1)
+
+pub text_says : (cycle : ℕ) (names : Names) (program : IntProgram) → IsWritable cycle names program → IsSmall (sizes_of program) → IsProgram (lines (interp_text cycle names program)) (read_as cycle names program)
+text_says cycle names program w small = record {
+  says = record {
+    spelled = joined_reads (spelled cycle names program) (spelled_reads cycle names program w small);
+    sound = record {
+      inputs = w.sound.inputs;
+      outputs = w.sound.outputs;
+      relays = w.sound.relays;
+      input_count = w.sound.input_count;
+      output_count = w.sound.output_count;
+      bit_count = w.sound.bit_count;
+      well_formed = record {
+        nests = w.sound.well_formed.nests;
+        range = w.sound.well_formed.range;
+        kept = omega arith;
+        starts = refl;
+      };
+    };
+    whole = refl;
+  };
+  few = w.few;
+}
+
+-- seven pieces written one behind the other
+pub seven : (t0 t1 t2 t3 t4 t5 t6 t7 a b c d e f g : List ℕ) → t0 ≡ [] → t1 ≡ t0 ++ a → t2 ≡ t1 ++ b → t3 ≡ t2 ++ c → t4 ≡ t3 ++ d → t5 ≡ t4 ++ e → t6 ≡ t5 ++ f → t7 ≡ t6 ++ g → t7 ≡ a ++ (b ++ (c ++ (d ++ (e ++ (f ++ g)))))
+seven t0 t1 t2 t3 t4 t5 t6 t7 a b c d e f g h0 h1 h2 h3 h4 h5 h6 h7 = rw (h7, h6, h5, h4, h3, h2, h1, h0) (simp append_assoc)

@@ -1,0 +1,36 @@
+-- The line at which a text that is no program's is refused.
+use Rattle.std.specs.Prelude.{◌≡◌, ◌⊎◌, ℕ, ◌+◌, ◌-◌, ◌<◌, ◌≤◌, Bool, true, false, List, length, take, count_by, Option, Some}
+use Rattle.ld_base.specs.Refusal.{Begins}
+use Rattle.interp_code.specs.declared.program.InterpProgram.{InterpProgram}
+use Rattle.interp_code.specs.Line.{Line, Operation, line_of}
+use Rattle.interp_code.specs.Program.{Says, IsProgram, most_operations}
+
+abbrev pub says_operation : Option Line → Bool
+says_operation (Some (Operation op)) = true
+says_operation other = false
+
+-- how many of the lines are operations
+abbrev pub operations_in : List (List ℕ) → ℕ
+operations_in lines = count_by (λ l. says_operation (line_of l)) lines
+
+-- Some text goes on behind these lines, and they have no more operations than a program may have.
+pub record IsBegun (lines : List (List ℕ)) : Type 0 where
+  pub goes_on : Begins (λ ls. (p : InterpProgram) × Says ls p) lines
+  pub few : operations_in lines ≤ most_operations
+
+-- how many bytes a text may have
+abbrev pub most_bytes : ℕ
+most_bytes = 67108864
+
+-- the bytes by which a text is judged
+abbrev pub judged : List ℕ → List ℕ
+judged text = take (most_bytes + 1) text
+
+-- Lines are counted from 1. Over says that the text is longer than it may be: its last line here then holds the first byte past that.
+pub record IsRefusedAt (over : Bool) (lines : List (List ℕ)) (line : ℕ) : Type 0 where
+  -- the lines before it begin a text
+  pub before : IsBegun (take (line - 1) lines)
+  -- with it no text goes on, or it passes a limit, or the text ends before `end`
+  pub cause : ((0 < line) × (line ≤ length lines) × (IsBegun (take line lines) → ⊥))
+      ⊎ (((over ≡ true) × (0 < line) × (line ≡ length lines))
+      ⊎ ((over ≡ false) × (line ≡ length lines + 1) × (((p : InterpProgram) × IsProgram lines p) → ⊥)))

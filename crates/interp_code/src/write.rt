@@ -1,0 +1,94 @@
+//! Writing a program's text.
+
+ghost use Rattle.std.specs.Prelude.{◌≡◌, ◌<◌, ◌++◌, ◌∷◌, [], true, OnOk, IfOk, All, map, codes};
+ghost use Rattle.std.specs.List.{list_all};
+ghost use Rattle.std.specs.String.{string_bytes};
+ghost use Rattle.ld_base.specs.Lines.{lines};
+ghost use Rattle.ladder_tree.specs.Names.{is_name_within};
+ghost use Rattle.interp_code.specs.Line.{Magic, Cycle, BitCount, Code, End};
+ghost use Rattle.interp_code.specs.Text.{joined, line_text, op_text, interp_text};
+ghost use Rattle.interp_code.specs.Program.{IsWritable, IsProgram, read_as};
+
+use crate::op_text::OpText;
+use int_code::op::{IntOp, IntProgram};
+use ladder_tree::element::Name;
+use ladder_tree::names::Names;
+use ld_base::list::List;
+use std::alloc::{AllocError, Global};
+
+/// Bytes of a text.
+pub type Text = List<u8>;
+
+/// The text of a program, each line with its line feed. Reading it gives the program back, but
+/// for what a text does not tell: `names.memories`, and which bits are kept.
+pub fn write_interp(
+    alloc: Global,
+    cycle: u32,
+    names: &Names,
+    program: &IntProgram,
+) -> Result<Text, AllocError>
+    requires { IsWritable cycle names.now program.now }
+    ensures text { IfOk result (λ t. t ≡ interp_text cycle names.now program.now) }
+    ensures reads_back { IfOk result (λ t. IsProgram (lines t) (read_as cycle names.now program.now)) }
+{
+    // A read shows the proof that these are in a u32's range.
+    let _inputs = program.inputs;
+    let _outputs = program.outputs;
+    let mut text = String::new(alloc);
+    push_head(&mut text, cycle)?;
+    push_names(&mut text, "input ", names.inputs.as_slice())?;
+    push_names(&mut text, "output ", names.outputs.as_slice())?;
+    push_names(&mut text, "relay ", names.relays.as_slice())?;
+    push_sizes(&mut text, program.bits)?;
+    push_operations(&mut text, program.ops.as_slice())?;
+    text.push_str("end\n")?;
+    Ok(List::from_vec(text.into_bytes()))
+}
+
+/// Appends the two lines in front of the names.
+fn push_head(text: &mut String, cycle: u32) -> Result<(), AllocError>
+    ensures { OnOk result (string_bytes text.new ≡ string_bytes text.old ++ joined (map line_text (Magic ∷ (Cycle cycle ∷ [])))) }
+{
+    writeln!(text, "LDint 1\ncycle {cycle}")
+}
+
+/// Appends the lines behind the names, in front of the operations.
+fn push_sizes(text: &mut String, bits: u32) -> Result<(), AllocError>
+    ensures { OnOk result (string_bytes text.new ≡ string_bytes text.old ++ joined (map line_text (BitCount bits ∷ (Code ∷ [])))) }
+{
+    writeln!(text, "bits {bits}\ncode")
+}
+
+/// Appends bytes that are ASCII.
+fn push_ascii(text: &mut String, bytes: &[u8]) -> Result<(), AllocError>
+    requires { All (λ b. b < 128) bytes.now }
+    ensures { OnOk result (string_bytes text.new ≡ string_bytes text.old ++ bytes.now) }
+{
+    for byte in bytes {
+        text.push(char::from(*byte))?;
+    }
+    Ok(())
+}
+
+/// Appends a line for each name: a word with its space, and the name.
+fn push_names(text: &mut String, word: &str, names: &[Name]) -> Result<(), AllocError>
+    requires { list_all (is_name_within 66) names.now ≡ true }
+    ensures { OnOk result (string_bytes text.new ≡ string_bytes text.old ++ joined (map (λ n. word.now ++ n) names.now)) }
+{
+    for name in names {
+        text.push_str(word)?;
+        push_ascii(text, name.as_slice())?;
+        text.push_str("\n")?;
+    }
+    Ok(())
+}
+
+/// Appends the lines of operations.
+fn push_operations(text: &mut String, ops: &[IntOp]) -> Result<(), AllocError>
+    ensures { OnOk result (string_bytes text.new ≡ string_bytes text.old ++ joined (map op_text ops.now)) }
+{
+    for op in ops {
+        writeln!(text, "{}", OpText(*op))?;
+    }
+    Ok(())
+}

@@ -1,0 +1,16 @@
+pub mod FoldLemmas
+pub mod NameLemmas
+pub mod NestLemmas
+pub mod RangeLemmas
+pub mod CapLemmas
+pub mod CountLemmas
+pub mod Stands
+pub mod PlaceLemmas
+pub mod WriteLemmas
+pub mod Lowers
+pub mod LeafLemmas
+pub mod LoopLemmas
+pub mod ElementLemmas
+pub mod NodeLemmas
+pub mod HistoryLemmas
+pub mod ProgramLemmas

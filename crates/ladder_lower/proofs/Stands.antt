@@ -1,0 +1,45 @@
+-- When numbered bits show a ladder's state within a cycle, by names, and which names have places.
+use Rattle.std.proofs.Common.{◌≡◌, ℕ, ◌<◌, Bool, true, false, cond, List, [], ◌∷◌, length}
+use Rattle.std.specs.Prelude.{slice_index_or}
+use Rattle.std.specs.List.{list_any}
+use Rattle.std.specs.Str.{bytes_eq}
+use Rattle.ladder_tree.specs.declared.element.Leaf as leaf
+use Rattle.ladder_tree.specs.declared.element.LeafKind.{LeafKind}
+use Rattle.ladder_tree.specs.declared.element.LeafKind.TheVariants.{Contacts, Coil}
+use Rattle.ladder_tree.specs.declared.names.Names.{Names}
+use Rattle.ladder_tree.specs.Names.{is_input, is_output}
+use Rattle.ladder_meaning.specs.State.{Now, place_of}
+use Rattle.int_code.specs.Meaning.{Bits}
+use Rattle.ladder_lower.specs.Places.{memory_bit, master}
+
+abbrev pub held : List (List ℕ) → List ℕ → Bool
+held names name = list_any (λ x. bytes_eq x name) names
+
+pub record Stands (n : Names) (s : Now) (t : Bits) : Type 0 where
+  pub relays : (name : List ℕ) → is_output name ≡ false → held n.relays name ≡ true → t.bit (place_of n.relays name) ≡ s.bit name
+  pub outputs : (name : List ℕ) → is_output name ≡ true → held n.outputs name ≡ true → t.output (place_of n.outputs name) ≡ s.bit name
+  pub memories : (k : ℕ) → k < n.memories → t.bit (memory_bit n k) ≡ s.memory k
+  pub master : t.bit (master n) ≡ s.master
+
+-- a name is in the list of its kind
+abbrev pub IsHeld : Names → List ℕ → Type 0
+IsHeld n name = cond (is_output name) (held n.outputs name) (held n.relays name) ≡ true
+
+-- the names of an element have places
+abbrev pub IsNamed : Names → LeafKind → Type 0
+IsNamed n (Contacts name neg) = cond (is_input name) (held n.inputs name) (cond (is_output name) (held n.outputs name) (held n.relays name)) ≡ true
+IsNamed n (Coil name mode) = IsHeld n name
+IsNamed n _ = Unit {0}
+
+abbrev pub AllNamed : Names → List leaf.Leaf → Type 0
+AllNamed n [] = Unit {0}
+AllNamed n (l ∷ ls) = IsNamed n l.kind × AllNamed n ls
+
+-- names of one kind, each once
+pub record IsListed (is_kind : Bool) (xs : List (List ℕ)) : Type 0 where
+  pub place : (k : ℕ) → k < length xs → place_of xs (slice_index_or xs k []) ≡ k
+  pub kind : (k : ℕ) → k < length xs → is_output (slice_index_or xs k []) ≡ is_kind
+
+pub record Listed (n : Names) : Type 0 where
+  pub outputs : IsListed true n.outputs
+  pub relays : IsListed false n.relays

@@ -1,0 +1,4 @@
+//! From trees to flat operations.
+#![tactic(auto)]
+
+pub mod lower;

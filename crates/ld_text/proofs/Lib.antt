@@ -1,0 +1,5 @@
+pub mod TreeLemmas
+pub mod PlaceLemmas
+pub mod RunLemmas
+pub mod RefusalLemmas
+pub mod ContentLemmas

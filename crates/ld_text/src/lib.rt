@@ -1,0 +1,9 @@
+//! Project texts: what they stand for, and the line at which a text is refused.
+#![tactic(auto)]
+
+pub mod fault;
+mod header;
+pub mod mark;
+mod name;
+pub mod read;
+mod reader;

@@ -1,0 +1,39 @@
+-- From each step's promise to the whole one: the text of a lowered project carries it.
+use Rattle.std.proofs.Common.{◌≡◌, ℕ, ◌≤◌, List, [], ◌∷◌, length, map, refl}
+use Rattle.ld_base.specs.Lines.{lines}
+use Rattle.ladder_tree.specs.declared.names.Names.{Names}
+use Rattle.ladder_tree.specs.declared.project.Project.{Project}
+use Rattle.ladder_tree.specs.Names.{names_of}
+use Rattle.ladder_meaning.specs.declared.reading.Reading.{Reading}
+use Rattle.ladder_meaning.specs.Cycle.{State, start}
+use Rattle.int_code.specs.declared.op.IntOp.{IntOp}
+use Rattle.int_code.specs.declared.op.IntProgram.{IntProgram}
+use Rattle.int_code.specs.Meaning.{Bits, Moment}
+use Rattle.int_code.specs.Meaning as int
+use Rattle.int_code.proofs.CountLemmas.{cycle_count}
+use Rattle.ladder_lower.specs.Correct.{Shows, ShowsAll, KeepsHistory}
+use Rattle.interp_code.specs.Program.{IsProgram, read_as}
+use Rattle.ldmicro_top.specs.Carries.{ShowsWithin, EachShows, Carries}
+
+-- a cycle executes at most as many operations as there are
+each_shows : (n : Names) (ops : List IntOp) (ss : List State) (t : Bits) (rs : List Reading) → ShowsAll n ss (int.history ops t rs) → EachShows n (length ops) ss (int.history ops t rs)
+each_shows n ops [] t [] h = tt
+each_shows n ops (s ∷ ss) t (r ∷ rs) h = (record { shows = h.0; few = cycle_count r ops t }, each_shows n ops ss (int.cycle r ops t).bits rs h.1)
+each_shows n ops [] t (r ∷ rs) h = absurd h
+each_shows n ops (s ∷ ss) t [] h = absurd h
+
+-- all is off at the start
+start_shown : (n : Names) → Shows n start int.start
+start_shown n = record { outputs = λ k lt. refl; relays = λ k lt. refl; memories = λ k lt. refl }
+
+pub carried : (p : Project) (program : IntProgram) (code : List ℕ) → IsProgram (lines code) (read_as p.cycle (names_of p.rungs) program) → KeepsHistory (names_of p.rungs) p.rungs program.ops → Carries p code (length program.ops)
+carried p program code read keeps = record {
+  program = read_as p.cycle (names_of p.rungs) program;
+  read = read;
+  cycle = refl;
+  inputs = refl;
+  outputs = refl;
+  relays = refl;
+  operations = refl;
+  each = λ rs. each_shows (names_of p.rungs) program.ops _ int.start rs (keeps.each start int.start rs (start_shown (names_of p.rungs)));
+}

@@ -1,0 +1,3 @@
+pub mod RanLemmas
+pub mod CarryLemmas
+pub mod NamedLemmas

@@ -1,0 +1,16 @@
+use Rattle.std.proofs.Common.{◌≡◌, rules, arith, refl, List, ℕ, subst, ap, sym, ◌∙◌}
+use Rattle.std.specs.String.{string_bytes}
+use Rattle.ldmicro_top.specs.declared.status.Status.TheVariants.{Ok}
+use Rattle.ldmicro_top.specs.Steps.{Told}
+use Rattle.ldmicro_top.specs.Ran.{World}
+use Rattle.ldmicro_top.proofs.RanLemmas.{Later, declined, unwritten, reported}
+use Rattle.ldmicro_top.proofs.run.compile.Goals as goal
+
+pub returns-in-Err : goal.returns-in-Err
+returns-in-Err g c =
+    let F = g.F.Files in
+    let O = g.O.Out in
+    let old : World = record { counts = F.counts c.args.files.now; held = F.held c.args.files.now; faults = O.fault_count c.args.out.now; written = O.written c.args.out.now } in
+    let new : World = record { counts = F.counts c.judge.new.files; held = F.held c.judge.new.files; faults = O.fault_count c.tell.new.out; written = O.written c.tell.new.out } in
+    let later : Later old new = record { reads = c.judge.ensures.reads; absences = c.judge.ensures.absences; writes = omega (arith, c.judge.ensures.writes); faults = c.tell.ensures.later } in
+    declined F.tells O.tells c.args.source.now c.args.dest.now old new later c.in-Err.status c.tell.result (c.in-Err.ensures.declined c.args.dest.now) c.judge.ensures.held c.tell.ensures

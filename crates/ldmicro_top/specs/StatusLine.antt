@@ -1,0 +1,62 @@
+-- The exit status and the line of each way that a run ends.
+use Rattle.std.specs.Prelude.{ℕ, List, [], ◌∷◌, ◌++◌, codes}
+use Rattle.std.specs.Fmt.{decimal}
+use Rattle.ld_text.specs.Fault.{number_of, name_of}
+use Rattle.ld_text.specs.declared.fault.ProjectFault.{ProjectFault}
+use Rattle.ld_text.specs.declared.fault.ProjectFault.TheVariants.{NotProject, BadLine, LineTooLong, TooDeep, TooMany, Unclosed, UnknownChip, NumberRange, NotRightmost, WrongKind, TimerTwice, TimerShort, TimerLong, NoAdc, NoPwm, PwmTwoRates, PinUnassigned, PinTwice, NoSuchPin, PinTaken, CycleRange, BaudRange, PwmRange, RamFull, EepromFull, CodeFull, NotBuilt}
+use Rattle.ldmicro_top.specs.declared.status.Status.{Status}
+use Rattle.ldmicro_top.specs.declared.status.Status.TheVariants as status
+use Rattle.ldmicro_top.specs.declared.status.Place.{Place}
+use Rattle.ldmicro_top.specs.declared.status.Place.TheVariants as at
+
+abbrev pub code_of : Status → ℕ
+code_of status.Ok = 0
+code_of status.Usage = 1
+code_of (status.Refused fault) = 2
+code_of status.ReadFault = 3
+code_of status.WriteFault = 4
+code_of status.NoMemory = 5
+
+abbrev pub place_of : ProjectFault → Place
+place_of (NotProject line) = at.Line line
+place_of (BadLine line) = at.Line line
+place_of (LineTooLong line) = at.Line line
+place_of (TooDeep line) = at.Line line
+place_of (TooMany line) = at.Line line
+place_of (Unclosed line) = at.Line line
+place_of (UnknownChip line) = at.Line line
+place_of (NumberRange line) = at.Line line
+place_of (NotRightmost line) = at.Line line
+place_of (WrongKind line) = at.Line line
+place_of (TimerTwice line first) = at.Twice line first
+place_of (TimerShort line) = at.Line line
+place_of (TimerLong line) = at.Line line
+place_of (NoAdc line) = at.Line line
+place_of (NoPwm line) = at.Line line
+place_of (PwmTwoRates line) = at.Line line
+place_of (PinUnassigned line) = at.Line line
+place_of (PinTwice line pin) = at.Pin line pin
+place_of (NoSuchPin line pin) = at.Pin line pin
+place_of (PinTaken line pin) = at.Pin line pin
+place_of (CycleRange line) = at.Line line
+place_of (BaudRange line) = at.Line line
+place_of (PwmRange line) = at.Line line
+place_of (RamFull need have) = at.Need need have
+place_of (EepromFull need have) = at.Need need have
+place_of (CodeFull need have) = at.Need need have
+place_of (NotBuilt line) = at.Line line
+
+abbrev pub place_text : Place → List ℕ
+place_text (at.Line line) = codes "line " ++ decimal line
+place_text (at.Twice line first) = codes "line " ++ (decimal line ++ (codes " first " ++ decimal first))
+place_text (at.Pin line pin) = codes "line " ++ (decimal line ++ (codes " pin " ++ decimal pin))
+place_text (at.Need need have) = codes "need " ++ (decimal need ++ (codes " have " ++ decimal have))
+
+-- the line that a status prints; after Ok the report is printed, and after two faults nothing is
+abbrev pub line_of : Status → List ℕ
+line_of status.Ok = []
+line_of status.Usage = codes "usage: ldmicro /c source dest | /s source trace | /r source file trace | /g number dest\n"
+line_of (status.Refused fault) = codes "refused " ++ (decimal (number_of fault) ++ (codes " " ++ (name_of fault ++ (codes " " ++ (place_text (place_of fault) ++ codes "\n")))))
+line_of status.ReadFault = codes "read fault\n"
+line_of status.WriteFault = []
+line_of status.NoMemory = []

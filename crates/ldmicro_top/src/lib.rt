@@ -1,0 +1,8 @@
+//! The top call: what the words of the command line ask for is done over any files and any output.
+#![tactic(auto)]
+
+pub mod compile;
+pub mod report;
+pub mod run;
+pub mod status;
+pub mod words;

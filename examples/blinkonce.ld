@@ -1,0 +1,20 @@
+LDmicro0.1
+MICRO=Interpretable Byte Code
+CYCLE=10000
+CRYSTAL=4000000
+BAUD=2400
+
+IO LIST
+END
+
+PROGRAM
+RUNG
+    CONTACTS Xbutton 0
+    OSR
+    COIL Yrise 0 0 0
+END
+RUNG
+    CONTACTS Xbutton 0
+    OSF
+    COIL Yfall 0 0 0
+END

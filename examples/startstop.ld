@@ -1,0 +1,22 @@
+LDmicro0.1
+MICRO=Interpretable Byte Code
+CYCLE=10000
+CRYSTAL=4000000
+BAUD=2400
+
+IO LIST
+END
+
+PROGRAM
+RUNG
+    PARALLEL
+        CONTACTS Xstart 0
+        CONTACTS Rrun 0
+    END
+    CONTACTS Xstop 1
+    COIL Rrun 0 0 0
+END
+RUNG
+    CONTACTS Rrun 0
+    COIL Ymotor 0 0 0
+END
