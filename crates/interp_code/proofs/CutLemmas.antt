@@ -2,7 +2,7 @@
 use Rattle.std.proofs.Common.{◌≡◌, ◌≢◌, ℕ, suc, ◌<◌, ◌≤◌, Bool, true, false, if◌then◌else◌, ◌==◌, List, [], ◌∷◌, ◌++◌, length, refl, ap, ◌∙◌, inl, inr, arith, All, length-append}
 use Rattle.std.proofs.lemmas.Bool.Decides.{nat_tests}
 use Rattle.std.proofs.lemmas.List.Elements.{All-head, All-tail}
-use Rattle.ld_base.specs.Lines.{in_front, lines, pieces}
+use Rattle.ld_base.specs.Lines.{onto, lines, pieces}
 use Rattle.interp_code.specs.Cut.{IsLine, IsFirstLine, IsFirstPiece}
 
 same : (x : ℕ) → (x == x) ≡ true
@@ -13,44 +13,44 @@ other x y h = grind (arith, nat_tests)
 
 -- a piece in front of a separator
 pub pieces-piece : (s : ℕ) (piece rest : List ℕ) → All (λ x. x ≢ s) piece → pieces s (piece ++ s ∷ rest) ≡ piece ∷ pieces s rest
-pieces-piece s [] rest clean = ap (λ b. if b then [] ∷ pieces s rest else in_front s (pieces s rest)) (same s)
+pieces-piece s [] rest clean = ap (λ b. if b then [] ∷ pieces s rest else onto s (pieces s rest)) (same s)
 pieces-piece s (x ∷ xs) rest clean =
-    ap (λ b. if b then [] ∷ pieces s (xs ++ s ∷ rest) else in_front x (pieces s (xs ++ s ∷ rest))) (other x s (All-head (λ y. y ≢ s) x xs clean))
-    ∙ ap (in_front x) (pieces-piece s xs rest (All-tail (λ y. y ≢ s) x xs clean))
+    ap (λ b. if b then [] ∷ pieces s (xs ++ s ∷ rest) else onto x (pieces s (xs ++ s ∷ rest))) (other x s (All-head (λ y. y ≢ s) x xs clean))
+    ∙ ap (onto x) (pieces-piece s xs rest (All-tail (λ y. y ≢ s) x xs clean))
 
 -- a text without a separator
 pub pieces-last : (s : ℕ) (piece : List ℕ) → All (λ x. x ≢ s) piece → pieces s piece ≡ piece ∷ []
 pieces-last s [] clean = refl
 pieces-last s (x ∷ xs) clean =
-    ap (λ b. if b then [] ∷ pieces s xs else in_front x (pieces s xs)) (other x s (All-head (λ y. y ≢ s) x xs clean))
-    ∙ ap (in_front x) (pieces-last s xs (All-tail (λ y. y ≢ s) x xs clean))
+    ap (λ b. if b then [] ∷ pieces s xs else onto x (pieces s xs)) (other x s (All-head (λ y. y ≢ s) x xs clean))
+    ∙ ap (onto x) (pieces-last s xs (All-tail (λ y. y ≢ s) x xs clean))
 
 -- a line and its line feed in front of a text
 pub lines-line : (line rest : List ℕ) → IsLine line → lines (line ++ 10 ∷ rest) ≡ line ∷ lines rest
 lines-line [] rest clean = refl
 lines-line (x ∷ xs) rest clean =
-    ap (λ b. if b then [] ∷ lines (xs ++ 10 ∷ rest) else in_front x (lines (xs ++ 10 ∷ rest))) (other x 10 (All-head (λ y. y ≢ 10) x xs clean))
-    ∙ ap (in_front x) (lines-line xs rest (All-tail (λ y. y ≢ 10) x xs clean))
+    ap (λ b. if b then [] ∷ lines (xs ++ 10 ∷ rest) else onto x (lines (xs ++ 10 ∷ rest))) (other x 10 (All-head (λ y. y ≢ 10) x xs clean))
+    ∙ ap (onto x) (lines-line xs rest (All-tail (λ y. y ≢ 10) x xs clean))
 
 -- a line that has no line feed behind it
 pub lines-last : (x : ℕ) (xs : List ℕ) → IsLine (x ∷ xs) → lines (x ∷ xs) ≡ (x ∷ xs) ∷ []
-lines-last x [] clean = ap (λ b. if b then [] ∷ [] else in_front x []) (other x 10 (All-head (λ y. y ≢ 10) x [] clean))
+lines-last x [] clean = ap (λ b. if b then [] ∷ [] else onto x []) (other x 10 (All-head (λ y. y ≢ 10) x [] clean))
 lines-last x (y ∷ ys) clean =
-    ap (λ b. if b then [] ∷ lines (y ∷ ys) else in_front x (lines (y ∷ ys))) (other x 10 (All-head (λ z. z ≢ 10) x (y ∷ ys) clean))
-    ∙ ap (in_front x) (lines-last y ys (All-tail (λ z. z ≢ 10) x (y ∷ ys) clean))
+    ap (λ b. if b then [] ∷ lines (y ∷ ys) else onto x (lines (y ∷ ys))) (other x 10 (All-head (λ z. z ≢ 10) x (y ∷ ys) clean))
+    ∙ ap (onto x) (lines-last y ys (All-tail (λ z. z ≢ 10) x (y ∷ ys) clean))
 
-length-in_front : (x : ℕ) (ls : List (List ℕ)) → length (in_front x ls) ≤ suc (length ls)
-length-in_front x [] = omega arith
-length-in_front x (l ∷ ls) = omega arith
+length-onto : (x : ℕ) (ls : List (List ℕ)) → length (onto x ls) ≤ suc (length ls)
+length-onto x [] = omega arith
+length-onto x (l ∷ ls) = omega arith
 
 -- there are no more lines than bytes
 pub length-lines : (text : List ℕ) → length (lines text) ≤ length text
 length-lines [] = omega arith
 length-lines (x ∷ xs) = by (x == 10) (length-lines xs)
   where
-    by : (b : Bool) → length (lines xs) ≤ length xs → length (if b then [] ∷ lines xs else in_front x (lines xs)) ≤ suc (length xs)
+    by : (b : Bool) → length (lines xs) ≤ length xs → length (if b then [] ∷ lines xs else onto x (lines xs)) ≤ suc (length xs)
     by true rest = omega (arith, rest)
-    by false rest = let more = length-in_front x (lines xs) in omega (arith, rest, more)
+    by false rest = let more = length-onto x (lines xs) in omega (arith, rest, more)
 
 pub is_shorter : (s : ℕ) (text piece rest : List ℕ) → IsFirstPiece s text piece rest → length rest < length text
 is_shorter s text piece rest h = let size = ap length h.parts ∙ length-append piece (s ∷ rest) in omega (arith, size)
