@@ -3,3 +3,4 @@ pub mod PlaceLemmas
 pub mod RunLemmas
 pub mod RefusalLemmas
 pub mod ContentLemmas
+pub mod VerdictLemmas

@@ -3,6 +3,7 @@
 
 pub mod fault;
 mod header;
+pub mod laws;
 pub mod mark;
 mod name;
 pub mod read;

@@ -115,3 +115,113 @@ pub fn read_project(alloc: Global, text: &[u8]) -> Result<Project, TextError>
 {
     read_text(alloc, text)
 }
+
+#[cfg(test)]
+mod tests {
+    use super::*;
+    use ladder_tree::element::{CoilMode, LeafKind};
+    use ladder_tree::project::Node;
+    use std::alloc::AllocError;
+    use std::test::Fail;
+
+    const HEADER: &str = "LDmicro0.1\nMICRO=Interpretable Byte Code\nCYCLE=10000\nCRYSTAL=4000000\nBAUD=2400\n\nIO LIST\nEND\n\nPROGRAM\n";
+
+    /// The text with these lines below the header.
+    fn text_with(alloc: Global, body: &str) -> Result<String, AllocError> {
+        let mut text = String::from_str(alloc, HEADER)?;
+        text.push_str(body)?;
+        Ok(text)
+    }
+
+    /// The fault of a text; none where it is read.
+    fn fault_of(alloc: Global, text: &[u8]) -> Result<Option<ProjectFault>, AllocError> {
+        match read_project(alloc, text) {
+            Ok(_) => Ok(None),
+            Err(TextError::Refused(fault)) => Ok(Some(fault)),
+            Err(TextError::Memory(e)) => Err(e),
+        }
+    }
+
+    #[test]
+    fn names_the_line_that_is_refused(rt: HostRuntime) -> Result<(), Fail> {
+        let rows = [
+            ("", None),
+            ("RUNG\nEND\nRUNG\nPARALLEL\nEND\nSERIES\nEND\nEND\n", None),
+            ("RUNG\nOSR\nEND", None),
+            ("RUNG\n", Some(12)),
+            ("RUNG\nOSR\n\nEND\n", Some(13)),
+            ("RUNG\n\tOSR\nEND\n", Some(12)),
+            ("RUNG\nOSR \nEND\n", Some(12)),
+            ("RUNG\r\nEND\n", Some(11)),
+            ("RUNG\nCOMMENT x\nEND\n", Some(12)),
+            ("RUNG\nCONTACTS Xa 0\nCOIL Xa 0 0 0\nEND\n", Some(13)),
+            ("RUNG\nCOIL Ya 0 1 1\nEND\n", Some(12)),
+            ("RUNG\nEND\nEND\n", Some(13)),
+        ];
+        for (body, want) in rows {
+            let text = text_with(rt.alloc(), body)?;
+            let found = fault_of(rt.alloc(), text.as_bytes())?;
+            let want = want.map(|line| ProjectFault::NotBuilt { line });
+            assert_eq!(rt; found, want, "at {body:?}");
+        }
+        let found = fault_of(rt.alloc(), b"")?;
+        assert_eq!(rt; found, Some(ProjectFault::NotBuilt { line: 1 }));
+        Ok(())
+    }
+
+    #[test]
+    fn opens_sixteen_forms(rt: HostRuntime) -> Result<(), Fail> {
+        for (forms, want) in [(16, None), (17, Some(ProjectFault::NotBuilt { line: 28 }))] {
+            let mut text = text_with(rt.alloc(), "RUNG\n")?;
+            for _ in 0..forms {
+                text.push_str("SERIES\n")?;
+            }
+            for _ in 0..forms {
+                text.push_str("END\n")?;
+            }
+            text.push_str("END\n")?;
+            let found = fault_of(rt.alloc(), text.as_bytes())?;
+            assert_eq!(rt; found, want, "at {forms}");
+        }
+        Ok(())
+    }
+
+    #[test]
+    fn takes_the_limit_and_no_more(rt: HostRuntime) -> Result<(), Fail> {
+        for (size, want) in [
+            (65_536, None),
+            (65_537, Some(ProjectFault::NotBuilt { line: 13 })),
+        ] {
+            let mut text = text_with(rt.alloc(), "RUNG\n")?;
+            let end = "OSR\nEND\n";
+            for _ in text.len() + end.len()..size {
+                text.push_str(" ")?;
+            }
+            text.push_str(end)?;
+            assert_eq!(rt; text.len(), size);
+            let found = fault_of(rt.alloc(), text.as_bytes())?;
+            assert_eq!(rt; found, want, "at {size}");
+        }
+        Ok(())
+    }
+
+    #[test]
+    fn reads_rungs(rt: HostRuntime) -> Result<(), Fail> {
+        let text = text_with(rt.alloc(), "RUNG\n    CONTACTS Xa 1\n    COIL Rb 0 0 1\nEND\n")?;
+        let Ok(project) = read_project(rt.alloc(), text.as_bytes()) else {
+            return Err(Fail::new("refused"));
+        };
+        match project.rungs.as_slice() {
+            [rung] => match rung.nodes.as_slice() {
+                [Node::Leaf(contacts), Node::Leaf(coil)] => {
+                    assert_eq!(rt; (contacts.line, coil.line), (12, 13));
+                    assert!(rt; matches!(&contacts.kind, LeafKind::Contacts { neg: true, .. }));
+                    assert!(rt; matches!(&coil.kind, LeafKind::Coil { mode: CoilMode::Reset, .. }));
+                }
+                _ => assert!(rt; false, "other nodes"),
+            },
+            _ => assert!(rt; false, "other rungs"),
+        }
+        Ok(())
+    }
+}

@@ -1,0 +1,5 @@
+use Rattle.ld_text.proofs.VerdictLemmas.{one_project}
+use Rattle.ld_text.proofs.laws.lines_have_one_project.Goals as goal
+
+pub returns : goal.returns
+returns c = one_project
