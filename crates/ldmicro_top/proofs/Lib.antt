@@ -1,3 +1,4 @@
 pub mod RanLemmas
 pub mod CarryLemmas
 pub mod NamedLemmas
+pub mod JudgeLemmas

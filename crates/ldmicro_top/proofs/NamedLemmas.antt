@@ -1,30 +1,33 @@
 -- The names of a project have a text: each is a name, and none stands twice in a list.
-use Rattle.std.proofs.Common.{◌≡◌, ℕ, ◌≤◌, Bool, true, false, not, ◌&&◌, cond, List, [], ◌∷◌, ◌++◌, length, filter, refl, sym, ap, ◌∙◌, arith, append_assoc, append-nil}
+use Rattle.std.proofs.Common.{◌≡◌, ℕ, ◌≤◌, Bool, true, false, not, ◌&&◌, cond, nat_le, List, [], ◌∷◌, ◌++◌, length, filter, refl, sym, ap, ◌∙◌, arith, append_assoc, append-nil}
+use Rattle.std.proofs.lemmas.Bool.Decides.{nat_tests}
 use Rattle.std.specs.List.{list_any, list_all}
 use Rattle.std.specs.Str.{bytes_eq}
 use Rattle.ladder_tree.specs.declared.element.Leaf as leaf
-use Rattle.ladder_tree.specs.Names.{firsts, firsts_from, all_bits, bit_names, is_name, is_name_within, is_well_named, has_kind, all_well_named, appearances}
-use Rattle.interp_code.specs.Program.{differ_from, all_differ}
+use Rattle.ladder_tree.specs.Names.{firsts, firsts_from, all_bits, bit_names, is_name, is_name_within, is_name_byte, is_digit, is_well_named, has_kind, all_well_named, appearances, is_input, is_output, is_relay, names_of}
+use Rattle.ladder_tree.specs.declared.project.Rung.{Rung}
+use Rattle.ladder_tree.specs.Leaves.{all_leaves}
+use Rattle.int_code.specs.declared.op.IntProgram.{IntProgram}
+use Rattle.int_code.specs.WellFormed.{IsWellFormed}
+use Rattle.ladder_lower.specs.Outcome.{HasSizes, HasRoom}
+use Rattle.interp_code.specs.Program.{differ_from, all_differ, IsWritable}
 
 -- one more name that is none of those before
-differ_more : (seen xs : List (List ℕ)) (n : List ℕ) → differ_from seen xs ≡ true → list_any (bytes_eq n) (seen ++ xs) ≡ false → differ_from seen (xs ++ n ∷ []) ≡ true
-differ_more seen [] n h new = let e : list_any (bytes_eq n) seen ≡ false = rw append-nil at new in rw e refl
-differ_more seen (x ∷ xs) n h new = by (list_any (bytes_eq x) seen) refl h
-  where
-    rest : differ_from (seen ++ x ∷ []) xs ≡ true → differ_from (seen ++ x ∷ []) (xs ++ n ∷ []) ≡ true
-    rest k = differ_more (seen ++ x ∷ []) xs n k (ap (list_any (bytes_eq n)) (append_assoc seen (x ∷ []) xs) ∙ new)
+differ_by : (seen xs : List (List ℕ)) (x n : List ℕ) (b : Bool) → (differ_from (seen ++ x ∷ []) xs ≡ true → differ_from (seen ++ x ∷ []) (xs ++ n ∷ []) ≡ true) → list_any (bytes_eq x) seen ≡ b → not b && differ_from (seen ++ x ∷ []) xs ≡ true → not (list_any (bytes_eq x) seen) && differ_from (seen ++ x ∷ []) (xs ++ n ∷ []) ≡ true
+differ_by seen xs x n true rest e k = absurd (cc)
+differ_by seen xs x n false rest e k = rw (e, rest k) refl
 
-    by : (b : Bool) → list_any (bytes_eq x) seen ≡ b → not b && differ_from (seen ++ x ∷ []) xs ≡ true → not (list_any (bytes_eq x) seen) && differ_from (seen ++ x ∷ []) (xs ++ n ∷ []) ≡ true
-    by true e k = absurd (cc)
-    by false e k = rw (e, rest k) refl
+differ_more : (seen xs : List (List ℕ)) (n : List ℕ) → differ_from seen xs ≡ true → list_any (bytes_eq n) (seen ++ xs) ≡ false → differ_from seen (xs ++ n ∷ []) ≡ true
+differ_more seen [] n h new = let e : list_any (bytes_eq n) seen ≡ false = ap (list_any (bytes_eq n)) (sym (append-nil seen)) ∙ new in rw e refl
+differ_more seen (x ∷ xs) n h new = differ_by seen xs x n (list_any (bytes_eq x) seen) (λ k. differ_more (seen ++ x ∷ []) xs n k (ap (list_any (bytes_eq n)) (append_assoc seen (x ∷ []) xs) ∙ new)) refl h
+
+firsts_by : (seen ns : List (List ℕ)) (n : List ℕ) (b : Bool) → (differ_from [] (firsts_from seen ns) ≡ true) → (list_any (bytes_eq n) seen ≡ false → differ_from [] (firsts_from (seen ++ n ∷ []) ns) ≡ true) → list_any (bytes_eq n) seen ≡ b → differ_from [] (cond b (firsts_from seen ns) (firsts_from (seen ++ n ∷ []) ns)) ≡ true
+firsts_by seen ns n true known new e = known
+firsts_by seen ns n false known new e = new e
 
 firsts_differ_from : (seen ns : List (List ℕ)) → differ_from [] seen ≡ true → differ_from [] (firsts_from seen ns) ≡ true
 firsts_differ_from seen [] h = h
-firsts_differ_from seen (n ∷ ns) h = by (list_any (bytes_eq n) seen) refl
-  where
-    by : (b : Bool) → list_any (bytes_eq n) seen ≡ b → differ_from [] (cond b (firsts_from seen ns) (firsts_from (seen ++ n ∷ []) ns)) ≡ true
-    by true e = firsts_differ_from seen ns h
-    by false e = firsts_differ_from (seen ++ n ∷ []) ns (differ_more [] seen n h e)
+firsts_differ_from seen (n ∷ ns) h = firsts_by seen ns n (list_any (bytes_eq n) seen) (firsts_differ_from seen ns h) (λ e. firsts_differ_from (seen ++ n ∷ []) ns (differ_more [] seen n h e)) refl
 
 pub firsts_differ : (ns : List (List ℕ)) → all_differ (firsts ns) ≡ true
 firsts_differ ns = firsts_differ_from [] ns refl
@@ -45,27 +48,21 @@ module _ (P : List ℕ → Bool) where
   all_append [] ys h k = k
   all_append (x ∷ xs) ys h k = both_true (P x) _ (first_true (P x) _ h) (all_append xs ys (second_true (P x) _ h) k)
 
+  filter_by : (b : Bool) (x : List ℕ) (xs : List (List ℕ)) → P x ≡ true → list_all P xs ≡ true → list_all P (cond b (x ∷ xs) xs) ≡ true
+  filter_by true x xs h k = both_true (P x) _ h k
+  filter_by false x xs h k = k
+
   all_filter : (Q : List ℕ → Bool) (xs : List (List ℕ)) → list_all P xs ≡ true → list_all P (filter Q xs) ≡ true
   all_filter Q [] h = refl
-  all_filter Q (x ∷ xs) h = by (Q x)
-    where
-      rest : list_all P (filter Q xs) ≡ true
-      rest = all_filter Q xs (second_true (P x) _ h)
+  all_filter Q (x ∷ xs) h = filter_by (Q x) x (filter Q xs) (first_true (P x) _ h) (all_filter Q xs (second_true (P x) _ h))
 
-      by : (b : Bool) → list_all P (cond b (x ∷ filter Q xs) (filter Q xs)) ≡ true
-      by true = both_true (P x) _ (first_true (P x) _ h) rest
-      by false = rest
+  all_by : (b : Bool) (xs ys : List (List ℕ)) → list_all P xs ≡ true → list_all P ys ≡ true → list_all P (cond b xs ys) ≡ true
+  all_by true xs ys h k = h
+  all_by false xs ys h k = k
 
   all_firsts_from : (seen ns : List (List ℕ)) → list_all P seen ≡ true → list_all P ns ≡ true → list_all P (firsts_from seen ns) ≡ true
   all_firsts_from seen [] h k = h
-  all_firsts_from seen (n ∷ ns) h k = by (list_any (bytes_eq n) seen)
-    where
-      rest : list_all P ns ≡ true
-      rest = second_true (P n) _ k
-
-      by : (b : Bool) → list_all P (cond b (firsts_from seen ns) (firsts_from (seen ++ n ∷ []) ns)) ≡ true
-      by true = all_firsts_from seen ns h rest
-      by false = all_firsts_from (seen ++ n ∷ []) ns (all_append seen (n ∷ []) h (both_true (P n) true (first_true (P n) _ k) refl)) rest
+  all_firsts_from seen (n ∷ ns) h k = all_by (list_any (bytes_eq n) seen) _ _ (all_firsts_from seen ns h (second_true (P n) _ k)) (all_firsts_from (seen ++ n ∷ []) ns (all_append seen (n ∷ []) h (both_true (P n) true (first_true (P n) _ k) refl)) (second_true (P n) _ k))
 
 bits_named : (ls : List leaf.Leaf) → all_well_named ls ≡ true → list_all is_name (all_bits ls) ≡ true
 bits_named [] h = refl
@@ -73,3 +70,43 @@ bits_named (l ∷ ls) h = all_append is_name (bit_names l.kind) (all_bits ls) (s
 
 pub listed_named : (is_kind : List ℕ → Bool) (ls : List leaf.Leaf) → all_well_named ls ≡ true → list_all is_name (firsts (appearances is_kind ls)) ≡ true
 listed_named is_kind ls h = all_firsts_from is_name [] (appearances is_kind ls) refl (all_filter is_name is_kind (all_bits ls) (bits_named ls h))
+
+within_more : (n : ℕ) → nat_le n 64 ≡ true → nat_le n 66 ≡ true
+within_more n h = grind (arith, nat_tests)
+
+and_last : (a b c d : Bool) → (c ≡ true → d ≡ true) → a && (b && c) ≡ true → a && (b && d) ≡ true
+and_last true true c d f h = f h
+and_last true false c d f h = cc
+and_last false b c d f h = cc
+
+-- a name of a project is short enough for a text
+within_66 : (name : List ℕ) → is_name name ≡ true → is_name_within 66 name ≡ true
+within_66 [] h = cc
+within_66 (b ∷ bs) h = and_last (not (is_digit b)) (list_all is_name_byte (b ∷ bs)) (nat_le (length (b ∷ bs)) 64) (nat_le (length (b ∷ bs)) 66) (within_more (length (b ∷ bs))) h
+
+all_within : (names : List (List ℕ)) → list_all is_name names ≡ true → list_all (is_name_within 66) names ≡ true
+all_within [] h = refl
+all_within (n ∷ ns) h = both_true (is_name_within 66 n) _ (within_66 n (first_true (is_name n) _ h)) (all_within ns (second_true (is_name n) _ h))
+
+pub listed_within : (is_kind : List ℕ → Bool) (ls : List leaf.Leaf) → all_well_named ls ≡ true → list_all (is_name_within 66) (firsts (appearances is_kind ls)) ≡ true
+listed_within is_kind ls h = all_within (firsts (appearances is_kind ls)) (listed_named is_kind ls h)
+
+-- a project's names and its program have a text
+pub writable : (gs : List Rung) (cycle : ℕ) (program : IntProgram) → all_well_named (all_leaves gs) ≡ true → cycle ≤ 999999999 → IsWellFormed program → HasSizes (names_of gs) program → HasRoom program → IsWritable cycle (names_of gs) program
+writable gs cycle program named timed formed sizes room = record {
+  sound = record {
+    inputs = firsts_differ (appearances is_input (all_leaves gs));
+    outputs = firsts_differ (appearances is_output (all_leaves gs));
+    relays = firsts_differ (appearances is_relay (all_leaves gs));
+    input_count = sizes.inputs;
+    output_count = sizes.outputs;
+    bit_count = let kept = sizes.kept in let within = formed.kept in omega arith;
+    well_formed = formed;
+  };
+  inputs = listed_within is_input (all_leaves gs) named;
+  outputs = listed_within is_output (all_leaves gs) named;
+  relays = listed_within is_relay (all_leaves gs) named;
+  timed = timed;
+  bits = room.bits;
+  few = room.ops;
+}

@@ -10,7 +10,7 @@ use interp_code::write::{Text, write_interp};
 use ladder_lower::lower::lower;
 use ladder_tree::names::names_in_order;
 use ld_text::fault::TextError;
-use ld_text::reader::read_project;
+use ld_text::read::read_project;
 use std::alloc::Global;
 
 /// What a project compiles to.

@@ -1,6 +1,6 @@
 //! The top call, over any files and any output.
 
-ghost use Rattle.std.specs.Prelude.{◌≡◌, ◌≤◌, List, map, IfOk, IfErr, OnOk};
+ghost use Rattle.std.specs.Prelude.{◌≡◌, ◌≤◌, ℕ, true, List, map, IfOk, IfErr, OnOk};
 ghost use Rattle.std.specs.Rc.{rc_str_bytes};
 ghost use Rattle.std.specs.String.{string_bytes};
 ghost use Rattle.ld_base.specs.Bytes.{SameHeld, HoldsThen};
@@ -15,11 +15,9 @@ use crate::words::compile_words;
 use ld_base::device::{FileFault, Files, OpenFault, Out};
 use ld_base::whole::{read_file, write_file, write_out};
 use ld_text::fault::TextError;
+use ld_text::read::TEXT_LIMIT;
 use std::alloc::Global;
 use std::rc::RcStr;
-
-/// How many bytes a project text may have.
-const TEXT_LIMIT: usize = 65_536;
 
 /// Writes a text, and then the status stands.
 fn say<O: Out>(out: &mut O, text: &[u8], status: Status) -> Status
