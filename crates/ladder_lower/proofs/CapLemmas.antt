@@ -1,12 +1,12 @@
 -- How many operations there are at most.
-use Rattle.std.proofs.Common.{◌≡◌, ℕ, ◌+◌, ◌*◌, ◌≤◌, Bool, true, false, List, [], ◌∷◌, ◌++◌, length, length-append, map, refl, arith}
+use Rattle.std.proofs.Common.{◌≡◌, ◌≢◌, ℕ, zero, suc, ◌+◌, ◌*◌, ◌^◌, ◌<◌, ◌≤◌, ◌⊎◌, inl, inr, ◌&&◌, ◌||◌, not, min, max, Bool, true, false, cond, nat_eq, List, [], ◌∷◌, ◌++◌, length, get_or, drop, map, sum, refl, sym, ap, ◌∙◌, subst, ⊎_elim, arith, rules, append_assoc, append-nil, add-one, drop-cons, length-append}
 use Rattle.std.proofs.lemmas.List.{length-map}
 use Rattle.std.proofs.lemmas.List.Sums.{sum_by-cons}
 use Rattle.ladder_tree.specs.declared.element.CoilMode.{CoilMode}
 use Rattle.ladder_tree.specs.declared.element.CoilMode.TheVariants as mode
 use Rattle.ladder_tree.specs.declared.element.LeafKind.{LeafKind}
 use Rattle.ladder_tree.specs.declared.element.LeafKind.TheVariants.{Contacts, Coil, Osr, Osf, Open, MasterRelay}
-use Rattle.ladder_tree.specs.declared.names.Names.{Names}
+use Rattle.ladder_lower.specs.declared.layout.Layout.{Layout}
 use Rattle.ladder_tree.specs.declared.element.Leaf as leaf
 use Rattle.ladder_tree.specs.declared.project.Node.{Node, Leaf, Series, Parallel}
 use Rattle.ladder_tree.specs.declared.project.Rung.{Rung}
@@ -14,7 +14,9 @@ use Rattle.ladder_tree.specs.Induct.{Each, node_ind}
 use Rattle.ladder_tree.specs.Size.{size_of, size_in, size_step, size_of_all}
 use Rattle.int_code.specs.Caps.{element_cap, node_cap, nodes_cap, cap_step, rungs_cap, ops_cap}
 use Rattle.int_code.specs.declared.op.IntOp.{IntOp}
-use Rattle.ladder_lower.specs.Code.{Piece, coil_code, contact_code, element_code, series_code, branch_end, branches_code, parallel_code, piece, piece_step, nodes_piece, rungs_code, program_code}
+use Rattle.ladder_lower.specs.ElementCode.{coil_code, contact_code, element_code}
+use Rattle.ladder_lower.specs.NodeCode.{Piece, series_code, ends, join, others_code, parallel_code, piece, piece_step, nodes_piece, rungs_code, start_by, program_code}
+use Rattle.ladder_lower.proofs.NodeLemmas.{keep}
 use Rattle.ladder_lower.proofs.FoldLemmas.{fold-Leaf, fold-Series, fold-Parallel}
 
 -- how many operations there are, by two bounds
@@ -22,7 +24,7 @@ pub record IsShort (ops : List IntOp) (cap lines : ℕ) : Type 0 where
   pub within : length ops ≤ cap
   pub few : length ops ≤ lines
 
-module _ (p : Names) where
+module _ (p : Layout) where
   contact_length : (neg : Bool) (name : List ℕ) → length (contact_code p neg name) ≡ 3
   contact_length true name = refl
   contact_length false name = refl
@@ -59,28 +61,42 @@ module _ (p : Names) where
       let x = s.within in let y = s.few in
       record { within = omega (arith, sum_by-cons (λ x. x) (node_cap n) (map node_cap ns)); few = omega (arith, sum_by-cons (λ x. x) (size_of n) (map size_of ns)) }
 
-  branches_short : (ns : List Node) → Each NodeShort ns → (d k : ℕ) → IsShort ((branches_code p (map (piece p) ns)).code d k) (8 * length ns + nodes_cap ns) (10 * size_in ns)
-  branches_short [] h d k = record { within = omega arith; few = omega arith }
-  branches_short (n ∷ ns) h d k =
+  join_length : (b : Bool) (d : ℕ) → length (join b p d) ≡ 3
+  join_length true d = refl
+  join_length false d = refl
+
+  others_short : (ns : List Node) → Each NodeShort ns → (d k : ℕ) → IsShort ((others_code p (map (piece p) ns)).code d k) (8 * length ns + nodes_cap ns) (10 * size_in ns)
+  others_short [] h d k = record { within = omega arith; few = omega arith }
+  others_short (n ∷ ns) h d k =
       let a = (piece p n).code (d + 1) k in
-      let b = (branches_code p (map (piece p) ns)).code d (k + (piece p n).memories) in
+      let j = join (ends (map (piece p) ns)) p d in
+      let three = join_length (ends (map (piece p) ns)) d in
+      let b = (others_code p (map (piece p) ns)).code d (k + (piece p n).memories) in
       let f = (h.0.each (d + 1) k).within in
       let g = h.0.less (d + 1) k in
-      let r = branches_short ns h.1 d (k + (piece p n).memories) in
+      let r = others_short ns h.1 d (k + (piece p n).memories) in
       let x = r.within in let y = r.few in
       record {
-        within = omega (arith, length-append a (branch_end p d ++ b), sum_by-cons (λ x. x) (node_cap n) (map node_cap ns));
-        few = omega (arith, length-append a (branch_end p d ++ b), sum_by-cons (λ x. x) (size_of n) (map size_of ns));
+        within = omega (arith, length-append a (j ++ b), length-append j b, sum_by-cons (λ x. x) (node_cap n) (map node_cap ns));
+        few = omega (arith, length-append a (j ++ b), length-append j b, sum_by-cons (λ x. x) (size_of n) (map size_of ns));
       }
 
   parallel_short : (ns : List Node) → Each NodeShort ns → (d k : ℕ) → IsShort ((parallel_code p (map (piece p) ns)).code d k) (4 + (8 * length ns + nodes_cap ns)) (3 + 10 * size_in ns)
-  parallel_short ns h d k =
-      let b = (branches_code p (map (piece p) ns)).code d k in
-      let r = branches_short ns h d k in
+  parallel_short [] h d k = record { within = omega arith; few = omega arith }
+  parallel_short (n ∷ []) h d k =
+      let f = (h.0.each d k).within in
+      let g = h.0.less d k in
+      record { within = omega arith; few = omega arith }
+  parallel_short (n ∷ o ∷ ns) h d k =
+      let a = (piece p n).code (d + 1) k in
+      let b = (others_code p (map (piece p) (o ∷ ns))).code d (k + (piece p n).memories) in
+      let f = (h.0.each (d + 1) k).within in
+      let g = h.0.less (d + 1) k in
+      let r = others_short (o ∷ ns) h.1 d (k + (piece p n).memories) in
       let x = r.within in let y = r.few in
       record {
-        within = omega (arith, length-append {A = IntOp});
-        few = omega (arith, length-append {A = IntOp});
+        within = omega (arith, length-append a (keep p d ∷ b), sum_by-cons (λ x. x) (node_cap n) (map node_cap (o ∷ ns)));
+        few = omega (arith, length-append a (keep p d ∷ b), sum_by-cons (λ x. x) (size_of n) (map size_of (o ∷ ns)));
       }
 
   leaf_short : (l : leaf.Leaf) → NodeShort (Leaf l)
@@ -115,6 +131,16 @@ module _ (p : Names) where
       let x = s.within in let y = s.few in
       record { within = omega arith; few = omega arith }
 
+  start_length : (b : Bool) → length (start_by b p) ≤ 1
+  start_length true = omega arith
+  start_length false = omega arith
+
   -- the whole program
   pub program_short : (gs : List Rung) → IsShort (program_code p gs) (ops_cap gs) (10 * size_of_all gs + 1)
-  program_short gs = let s = rungs_short gs 0 in let x = s.within in let y = s.few in record { within = omega arith; few = omega arith }
+  program_short gs =
+      let s = rungs_short gs 0 in let x = s.within in let y = s.few in
+      let one = start_length p.has_master in
+      record {
+        within = omega (arith, length-append (start_by p.has_master p) (rungs_code p gs 0));
+        few = omega (arith, length-append (start_by p.has_master p) (rungs_code p gs 0));
+      }

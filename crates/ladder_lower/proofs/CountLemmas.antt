@@ -1,23 +1,23 @@
 -- How many elements and memories trees have, and how deep PARALLELs stand in them.
-use Rattle.std.proofs.Common.{◌≡◌, ℕ, ◌+◌, ◌≤◌, List, [], ◌∷◌, ◌++◌, length, length-append, map, sum, refl, arith}
+use Rattle.std.proofs.Common.{◌≡◌, ◌≢◌, ℕ, zero, suc, ◌+◌, ◌*◌, ◌^◌, ◌<◌, ◌≤◌, ◌⊎◌, inl, inr, ◌&&◌, ◌||◌, not, min, max, Bool, true, false, cond, nat_eq, List, [], ◌∷◌, ◌++◌, length, get_or, drop, map, sum, refl, sym, ap, ◌∙◌, subst, ⊎_elim, arith, rules, append_assoc, append-nil, add-one, drop-cons, length-append}
 use Rattle.std.proofs.lemmas.List.Sums.{sum_by-cons}
 use Rattle.ladder_tree.specs.declared.element.Leaf as leaf
-use Rattle.ladder_tree.specs.declared.names.Names.{Names}
+use Rattle.ladder_lower.specs.declared.layout.Layout.{Layout}
 use Rattle.ladder_tree.specs.declared.project.Node.{Node}
 use Rattle.ladder_tree.specs.declared.project.Rung.{Rung}
 use Rattle.ladder_tree.specs.Induct.{Each, node_ind}
 use Rattle.ladder_tree.specs.Leaves.{largest, leaves, leaves_in, leaves_step, all_leaves, depth_of, depth_step, depth_of_all}
 use Rattle.ladder_tree.specs.Names.{memories_in}
 use Rattle.ladder_tree.specs.Size.{size_of, size_step, size_of_all}
-use Rattle.ladder_lower.specs.Code.{Piece, series_code, branches_code, piece, piece_step, memories_of}
-use Rattle.ladder_lower.specs.Depth.{nesting, nesting_step, nesting_of_all}
+use Rattle.ladder_lower.specs.NodeCode.{parallel_code, Piece, series_code, others_code, piece, piece_step, memories_of}
+use Rattle.ladder_lower.specs.Nesting.{nesting_of_branches, nesting, nesting_step, nesting_of_all}
 use Rattle.ladder_lower.proofs.FoldLemmas.{fold-Leaf, fold-Series, fold-Parallel}
 
 memories_append : (a b : List leaf.Leaf) → memories_in (a ++ b) ≡ memories_in a + memories_in b
 memories_append [] b = omega arith
 memories_append (l ∷ a) b = let h = memories_append a b in omega (arith, h)
 
-module _ (p : Names) where
+module _ (p : Layout) where
   abbrev Counts : Node → Type 0
   Counts n = (piece p n).memories ≡ memories_in (leaves n)
 
@@ -25,15 +25,20 @@ module _ (p : Names) where
   series_counts [] h = refl
   series_counts (n ∷ ns) h = let f = h.0 in let k = series_counts ns h.1 in omega (arith, memories_append (leaves n) (leaves_in ns))
 
-  branches_counts : (ns : List Node) → Each Counts ns → (branches_code p (map (piece p) ns)).memories ≡ memories_in (leaves_in ns)
-  branches_counts [] h = refl
-  branches_counts (n ∷ ns) h = let f = h.0 in let k = branches_counts ns h.1 in omega (arith, memories_append (leaves n) (leaves_in ns))
+  others_counts : (ns : List Node) → Each Counts ns → (others_code p (map (piece p) ns)).memories ≡ memories_in (leaves_in ns)
+  others_counts [] h = refl
+  others_counts (n ∷ ns) h = let f = h.0 in let k = others_counts ns h.1 in omega (arith, memories_append (leaves n) (leaves_in ns))
+
+  parallel_counts : (ns : List Node) → Each Counts ns → (parallel_code p (map (piece p) ns)).memories ≡ memories_in (leaves_in ns)
+  parallel_counts [] h = refl
+  parallel_counts (n ∷ []) h = let f = h.0 in omega (arith, memories_append (leaves n) [])
+  parallel_counts (n ∷ o ∷ ns) h = let f = h.0 in let k = others_counts (o ∷ ns) h.1 in omega (arith, memories_append (leaves n) (leaves_in (o ∷ ns)))
 
   node_counts : (n : Node) → Counts n
   node_counts = node_ind Counts
       (λ l. rw (fold-Leaf Piece (piece_step p) l, fold-Leaf (List leaf.Leaf) leaves_step l) (omega arith))
       (λ ns h. rw (fold-Series Piece (piece_step p) ns, fold-Series (List leaf.Leaf) leaves_step ns) (series_counts ns h))
-      (λ ns h. rw (fold-Parallel Piece (piece_step p) ns, fold-Parallel (List leaf.Leaf) leaves_step ns) (branches_counts ns h))
+      (λ ns h. rw (fold-Parallel Piece (piece_step p) ns, fold-Parallel (List leaf.Leaf) leaves_step ns) (parallel_counts ns h))
 
   each_counts : (ns : List Node) → Each Counts ns
   each_counts [] = tt
@@ -73,11 +78,16 @@ list_nested : (ns : List Node) → Each IsNested ns → largest (map nesting ns)
 list_nested [] h = omega arith
 list_nested (n ∷ ns) h = let f = h.0 in let k = list_nested ns h.1 in omega arith
 
+parallel_nested : (ns : List Node) → Each IsNested ns → nesting_of_branches (map nesting ns) ≤ largest (map depth_of ns) + 1
+parallel_nested [] h = omega arith
+parallel_nested (n ∷ []) h = let f = h.0 in omega arith
+parallel_nested (n ∷ o ∷ ns) h = let k = list_nested (n ∷ o ∷ ns) h in omega arith
+
 node_nested : (n : Node) → IsNested n
 node_nested = node_ind IsNested
     (λ l. rw (fold-Leaf ℕ nesting_step l, fold-Leaf ℕ depth_step l) (omega arith))
     (λ ns h. rw (fold-Series ℕ nesting_step ns, fold-Series ℕ depth_step ns) (let k = list_nested ns h in omega arith))
-    (λ ns h. rw (fold-Parallel ℕ nesting_step ns, fold-Parallel ℕ depth_step ns) (let k = list_nested ns h in omega arith))
+    (λ ns h. rw (fold-Parallel ℕ nesting_step ns, fold-Parallel ℕ depth_step ns) (parallel_nested ns h))
 
 each_nested : (ns : List Node) → Each IsNested ns
 each_nested [] = tt

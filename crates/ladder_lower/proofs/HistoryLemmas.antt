@@ -1,5 +1,6 @@
 -- From nodes to whole histories.
-use Rattle.std.proofs.Common.{◌≡◌, ℕ, ◌+◌, ◌≤◌, true, List, [], ◌∷◌, map, refl, sym, ap, ◌∙◌, arith}
+use Rattle.ladder_lower.specs.Wires.{layout_of}
+use Rattle.std.proofs.Common.{◌≡◌, ◌≢◌, ℕ, zero, suc, ◌+◌, ◌*◌, ◌^◌, ◌<◌, ◌≤◌, ◌⊎◌, inl, inr, ◌&&◌, ◌||◌, not, min, max, Bool, true, false, cond, nat_eq, List, [], ◌∷◌, ◌++◌, length, get_or, drop, map, sum, refl, sym, ap, ◌∙◌, subst, ⊎_elim, arith, rules, append_assoc, append-nil, add-one, drop-cons, length-append}
 use Rattle.ladder_tree.specs.declared.project.Rung.{Rung}
 use Rattle.int_code.specs.declared.op.BitDest.TheVariants as dest
 use Rattle.int_code.specs.declared.op.IntOp.TheVariants.{Cpy, Set}
@@ -9,42 +10,51 @@ use Rattle.int_code.specs.Meaning as int
 use Rattle.ladder_meaning.specs.State.{Now, place_of, seen}
 use Rattle.ladder_meaning.specs.Node.{nodes}
 use Rattle.ladder_meaning.specs.Cycle.{State, rungs, begin, end_of, cycle, history}
-use Rattle.ladder_lower.specs.Places.{memory_bit, power, master}
+use Rattle.ladder_lower.specs.Wires.{memory_bit, power, master}
 use Rattle.ladder_lower.proofs.PlaceLemmas.{place_below, get_place, held_get}
 use Rattle.ladder_lower.proofs.Stands.{Stands, AllNamed, Listed}
-use Rattle.ladder_lower.specs.Code.{rungs_code, program_code, nodes_piece, memories_of}
+use Rattle.ladder_lower.specs.NodeCode.{rung_start_by, rung_start, rungs_code, start_by, program_code, nodes_piece, memories_of}
+use Rattle.ladder_tree.specs.declared.names.Names.{Names}
 use Rattle.ladder_lower.specs.Correct.{Shows, ShowsAll, KeepsHistory}
 use Rattle.ladder_lower.proofs.LeafLemmas.{named_front, named_back}
 use Rattle.ladder_lower.proofs.WriteLemmas.{wire_write, same, other}
 use Rattle.ladder_lower.proofs.NodeLemmas.{nodes_lower, run-append}
-use Rattle.ladder_tree.specs.declared.names.Names.{Names}
+use Rattle.ladder_lower.specs.declared.layout.Layout.{Layout}
 use Rattle.ladder_meaning.specs.declared.reading.Reading.{Reading}
 use Rattle.ladder_tree.specs.Leaves.{leaves_in, all_leaves}
 use Rattle.ladder_lower.proofs.Stands.{AllNamed, Stands}
 
-record RungsAfter (p : Names) (m l : Moment) (s : Now) : Type 0 where
+record RungsAfter (p : Layout) (m l : Moment) (s : Now) : Type 0 where
   ifs : l.ifs ≡ m.ifs
   shows : Stands p s l.bits
 
-module _ (p : Names) (r : Reading) where
+module _ (p : Layout) (r : Reading) where
   record RungBegins (m l : Moment) (s : Now) : Type 0 where
     ifs : l.ifs ≡ m.ifs
     shows : Stands p s l.bits
     power : l.bits.bit (power p) ≡ s.master
 
-  rung_begins : (m : Moment) (s : Now) → all_run m.ifs ≡ true → Stands p s m.bits → RungBegins m (step r (Cpy (dest.B (power p)) (source.B (master p))) m) s
-  rung_begins m s on sh = rw on (record {
+  rung_begins_by : (b : Bool) (m : Moment) (s : Now) → p.has_master ≡ b → all_run m.ifs ≡ true → Stands p s m.bits → RungBegins m (step r (rung_start_by b p) m) s
+  rung_begins_by true m s has on sh = rw on (record {
     ifs = refl;
-    shows = wire_write p s m.bits 0 _ (λ e. cc) sh;
-    power = same (power p) _ _ ∙ sh.master;
+    shows = wire_write p s m.bits 0 _ (λ h e. cc) sh;
+    power = same (power p) _ _ ∙ sh.master has;
   })
+  rung_begins_by false m s has on sh = rw on (record {
+    ifs = refl;
+    shows = wire_write p s m.bits 0 true (λ h e. cc) sh;
+    power = same (power p) true _ ∙ sym (sh.plain has);
+  })
+
+  rung_begins : (m : Moment) (s : Now) → all_run m.ifs ≡ true → Stands p s m.bits → RungBegins m (step r (rung_start p) m) s
+  rung_begins m s = rung_begins_by p.has_master m s refl
 
   rungs_lower : (gs : List Rung) (k : ℕ) (m : Moment) (s : Now) → AllNamed p (all_leaves gs) → k + memories_of p gs ≤ p.memories → all_run m.ifs ≡ true → Stands p s m.bits → RungsAfter p m (run r (rungs_code p gs k) m) (rungs (seen p.inputs r) gs k s)
   rungs_lower [] k m s all lt on sh = record { ifs = refl; shows = sh }
   rungs_lower (g ∷ gs) k m s all lt on sh =
       let f = nodes_lower p r g.nodes (named_front p (leaves_in g.nodes) (all_leaves gs) all) in
       let mem = f.memories in
-      let m1 = step r (Cpy (dest.B (power p)) (source.B (master p))) m in
+      let m1 = step r (rung_start p) m in
       let b = rung_begins m s on sh in
       let on1 : all_run m1.ifs ≡ true = ap all_run b.ifs ∙ on in
       let m2 = run r ((nodes_piece p g.nodes).code 0 k) m1 in
@@ -57,27 +67,52 @@ module _ (p : Names) (r : Reading) where
         shows = rw b.power at c.shows;
       })
 
-  begins : (s : State) (t : Bits) → Shows p s t → Stands p (begin s) (with t (dest.B (master p)) true)
-  begins s t sh = record {
-    relays = λ n y h. other (master p) (place_of p.relays n) true _ (let lt = place_below p.relays n h in omega (arith, lt)) ∙ sh.relays (place_of p.relays n) (place_below p.relays n h) ∙ ap s.bit (get_place p.relays n h);
-    outputs = λ n y h. sh.outputs (place_of p.outputs n) (place_below p.outputs n h) ∙ ap s.bit (get_place p.outputs n h);
-    memories = λ k lt. other (master p) (memory_bit p k) true _ (omega arith) ∙ sh.memories k lt;
-    master = same (master p) true _;
+module _ (n : Names) (has : Bool) (r : Reading) where
+  abbrev p : Layout
+  p = layout_of n has
+
+  record Begins (m : Moment) (s : State) : Type 0 where
+    ifs : m.ifs ≡ []
+    shows : Stands p (begin s) m.bits
+
+  begins_by : (b : Bool) (s : State) (t : Bits) → has ≡ b → Shows n s t → Begins (run r (start_by b p) (int.begin t)) s
+  begins_by true s t e sh = record {
+    ifs = refl;
+    shows = record {
+      relays = λ n y h. other (master p) (place_of p.relays n) true _ (let lt = place_below p.relays n h in omega (arith, lt)) ∙ sh.relays (place_of p.relays n) (place_below p.relays n h) ∙ ap s.bit (get_place p.relays n h);
+      outputs = λ n y h. sh.outputs (place_of p.outputs n) (place_below p.outputs n h) ∙ ap s.bit (get_place p.outputs n h);
+      memories = λ k lt. other (master p) (memory_bit p k) true _ (omega arith) ∙ sh.memories k lt;
+      master = λ h. same (master p) true _;
+      plain = λ h. refl;
+    };
+  }
+  begins_by false s t e sh = record {
+    ifs = refl;
+    shows = record {
+      relays = λ n y h. sh.relays (place_of p.relays n) (place_below p.relays n h) ∙ ap s.bit (get_place p.relays n h);
+      outputs = λ n y h. sh.outputs (place_of p.outputs n) (place_below p.outputs n h) ∙ ap s.bit (get_place p.outputs n h);
+      memories = λ k lt. sh.memories k lt;
+      master = λ h. absurd (cc);
+      plain = λ h. refl;
+    };
   }
 
-  ends : (s : Now) (t : Bits) → Listed p → Stands p s t → Shows p (end_of s) t
+  ends : (s : Now) (t : Bits) → Listed n → Stands p s t → Shows n (end_of s) t
   ends s t is sh = record {
     relays = λ k lt. ap t.bit (sym (is.relays.place k lt)) ∙ sh.relays _ (is.relays.kind k lt) (held_get p.relays k lt);
     outputs = λ k lt. ap t.output (sym (is.outputs.place k lt)) ∙ sh.outputs _ (is.outputs.kind k lt) (held_get p.outputs k lt);
     memories = sh.memories;
   }
 
-  cycle_lowers : (gs : List Rung) (s : State) (t : Bits) → Listed p → AllNamed p (all_leaves gs) → memories_of p gs ≤ p.memories → Shows p s t → Shows p (cycle gs s (seen p.inputs r)) (int.cycle r (program_code p gs) t).bits
-  cycle_lowers gs s t is all lt sh = ends _ _ is (rungs_lower gs 0 (step r (Set (dest.B (master p))) (int.begin t)) (begin s) all (omega arith) refl (begins s t sh)).shows
+  cycle_lowers : (gs : List Rung) (s : State) (t : Bits) → Listed n → AllNamed p (all_leaves gs) → memories_of p gs ≤ n.memories → Shows n s t → Shows n (cycle gs s (seen n.inputs r)) (int.cycle r (program_code p gs) t).bits
+  cycle_lowers gs s t is all lt sh =
+      let b = begins_by has s t refl sh in
+      let m = run r (start_by has p) (int.begin t) in
+      rw (run-append r (start_by has p) (rungs_code p gs 0) (int.begin t)) (ends _ _ is (rungs_lower p r gs 0 m (begin s) all (omega arith) (ap all_run b.ifs) b.shows).shows)
 
-pub keeps_history : (p : Names) (gs : List Rung) → Listed p → AllNamed p (all_leaves gs) → memories_of p gs ≤ p.memories → KeepsHistory p gs (program_code p gs)
-keeps_history p gs is all lt = record { each = each }
+pub keeps_history : (n : Names) (has : Bool) (gs : List Rung) → Listed n → AllNamed (layout_of n has) (all_leaves gs) → memories_of (layout_of n has) gs ≤ n.memories → KeepsHistory n gs (program_code (layout_of n has) gs)
+keeps_history n has gs is all lt = record { each = each }
   where
-    each : (s : State) (t : Bits) (rs : List Reading) → Shows p s t → ShowsAll p (history gs s (map (seen p.inputs) rs)) (int.history (program_code p gs) t rs)
+    each : (s : State) (t : Bits) (rs : List Reading) → Shows n s t → ShowsAll n (history gs s (map (seen n.inputs) rs)) (int.history (program_code (layout_of n has) gs) t rs)
     each s t [] sh = tt
-    each s t (r ∷ rs) sh = let now = cycle_lowers p r gs s t is all lt sh in (now, each (cycle gs s (seen p.inputs r)) (int.cycle r (program_code p gs) t).bits rs now)
+    each s t (r ∷ rs) sh = let now = cycle_lowers n has r gs s t is all lt sh in (now, each (cycle gs s (seen n.inputs r)) (int.cycle r (program_code (layout_of n has) gs) t).bits rs now)

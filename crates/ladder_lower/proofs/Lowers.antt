@@ -1,23 +1,23 @@
 -- A part's operations do what the part does.
 use Rattle.ladder_lower.proofs.Stands.{Stands}
-use Rattle.std.proofs.Common.{◌≡◌, ℕ, ◌+◌, ◌*◌, ◌<◌, ◌≤◌, true, false}
+use Rattle.std.proofs.Common.{◌≡◌, ◌≢◌, ℕ, zero, suc, ◌+◌, ◌*◌, ◌^◌, ◌<◌, ◌≤◌, ◌⊎◌, inl, inr, ◌&&◌, ◌||◌, not, min, max, Bool, true, false, cond, nat_eq, List, [], ◌∷◌, ◌++◌, length, get_or, drop, map, sum, refl, sym, ap, ◌∙◌, subst, ⊎_elim, arith, rules, append_assoc, append-nil, add-one, drop-cons, length-append}
 use Rattle.int_code.specs.Meaning.{Moment, all_run, run}
 use Rattle.ladder_meaning.specs.State.{Now}
 use Rattle.ladder_meaning.specs.Node.{Part}
-use Rattle.ladder_lower.specs.Places.{power, wire}
-use Rattle.ladder_lower.specs.Code.{Piece}
-use Rattle.ladder_tree.specs.declared.names.Names.{Names}
+use Rattle.ladder_lower.specs.Wires.{outer_wires, wires, power, wire}
+use Rattle.ladder_lower.specs.NodeCode.{Piece}
+use Rattle.ladder_lower.specs.declared.layout.Layout.{Layout}
 use Rattle.ladder_meaning.specs.Element.{Went}
 use Rattle.ladder_meaning.specs.declared.reading.Reading.{Reading}
 
 -- the later moment shows what the part did, and the wires of the d outer PARALLELs stay
-pub record After (p : Names) (d : ℕ) (m l : Moment) (w : Went) : Type 0 where
+pub record After (p : Layout) (d : ℕ) (m l : Moment) (w : Went) : Type 0 where
   pub ifs : l.ifs ≡ m.ifs
   pub shows : Stands p w.now l.bits
   pub power : l.bits.bit (power p) ≡ w.output
-  pub wires : (j : ℕ) → 3 ≤ j → j < 3 + 2 * d → l.bits.bit (wire p j) ≡ m.bits.bit (wire p j)
+  pub wires : (j : ℕ) → outer_wires p ≤ j → j < wires p d → l.bits.bit (wire p j) ≡ m.bits.bit (wire p j)
 
-pub record Lowers (p : Names) (r : Reading) (a : Part) (c : Piece) : Type 0 where
+pub record Lowers (p : Layout) (r : Reading) (a : Part) (c : Piece) : Type 0 where
   pub memories : c.memories ≡ a.memories
   -- in a branch that does not run, nothing is done
   pub asleep : (d k : ℕ) (m : Moment) → all_run m.ifs ≡ false → run r (c.code d k) m ≡ m

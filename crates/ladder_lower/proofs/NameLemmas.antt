@@ -1,5 +1,6 @@
 -- The lists of a project's names: each holds the names of its kind once, and all names that elements have.
-use Rattle.std.proofs.Common.{◌≡◌, ℕ, zero, suc, ◌+◌, ◌<◌, ◌≤◌, Bool, true, false, cond, ◌||◌, List, [], ◌∷◌, ◌++◌, length, length-append, refl, ◌∙◌, subst, arith}
+use Rattle.ladder_lower.specs.Wires.{layout_of}
+use Rattle.std.proofs.Common.{◌≡◌, ◌≢◌, ℕ, zero, suc, ◌+◌, ◌*◌, ◌^◌, ◌<◌, ◌≤◌, ◌⊎◌, inl, inr, ◌&&◌, ◌||◌, not, min, max, Bool, true, false, cond, nat_eq, List, [], ◌∷◌, ◌++◌, length, get_or, drop, map, sum, refl, sym, ap, ◌∙◌, subst, ⊎_elim, arith, rules, append_assoc, append-nil, add-one, drop-cons, length-append}
 use Rattle.std.specs.Prelude.{slice_index_or, filter}
 use Rattle.std.specs.List.{list_any}
 use Rattle.std.specs.Str.{bytes_eq}
@@ -8,9 +9,11 @@ use Rattle.std.proofs.lemmas.List.Folds.{list_any-append}
 use Rattle.std.proofs.lemmas.Bool.Decides.{nat_tests}
 use Rattle.ladder_tree.specs.declared.element.Leaf as leaf
 use Rattle.ladder_tree.specs.declared.element.LeafKind.{LeafKind}
-use Rattle.ladder_tree.specs.declared.element.LeafKind.TheVariants.{Contacts, Coil, Osr, Osf, Counter, Shift}
+use Rattle.ladder_tree.specs.declared.element.LeafKind.TheVariants.{Contacts, Coil, MasterRelay, Osr, Osf, Counter, Shift}
 use Rattle.ladder_tree.specs.declared.project.Rung.{Rung}
 use Rattle.ladder_tree.specs.declared.names.Names.{Names}
+use Rattle.ladder_lower.specs.declared.layout.Layout.{Layout}
+use Rattle.ladder_lower.specs.Masters.{is_master, any_master}
 use Rattle.ladder_tree.specs.Leaves.{all_leaves}
 use Rattle.ladder_tree.specs.Names.{is_input, is_output, is_relay, bit_names, all_bits, firsts_from, firsts, names_of, memories, memories_in, has_kind, all_well_named}
 use Rattle.ladder_meaning.specs.State.{place_of}
@@ -115,7 +118,7 @@ held_filter is_kind [] m k h = absurd (cc)
 held_filter is_kind (n ∷ ns) m k h = held_by is_kind n m ns (is_kind n) refl k (held_filter is_kind ns m k) h
 
 -- the lists of names hold each of some names in the list of its kind
-record Lists (p : Names) (ns : List (List ℕ)) : Type 0 where
+record Lists (p : Layout) (ns : List (List ℕ)) : Type 0 where
   inputs : (m : List ℕ) → held ns m ≡ true → is_input m ≡ true → held p.inputs m ≡ true
   outputs : (m : List ℕ) → held ns m ≡ true → is_output m ≡ true → held p.outputs m ≡ true
   relays : (m : List ℕ) → held ns m ≡ true → is_relay m ≡ true → held p.relays m ≡ true
@@ -129,14 +132,14 @@ or_left a b e = grind (arith, e)
 or_right : (a b : Bool) → b ≡ true → (a || b) ≡ true
 or_right a b e = grind (arith, e)
 
-lists_front : (p : Names) (xs ys : List (List ℕ)) → Lists p (xs ++ ys) → Lists p xs
+lists_front : (p : Layout) (xs ys : List (List ℕ)) → Lists p (xs ++ ys) → Lists p xs
 lists_front p xs ys f = record {
   inputs = λ m h. f.inputs m (held_append xs ys m ∙ or_left _ _ h);
   outputs = λ m h. f.outputs m (held_append xs ys m ∙ or_left _ _ h);
   relays = λ m h. f.relays m (held_append xs ys m ∙ or_left _ _ h);
 }
 
-lists_back : (p : Names) (xs ys : List (List ℕ)) → Lists p (xs ++ ys) → Lists p ys
+lists_back : (p : Layout) (xs ys : List (List ℕ)) → Lists p (xs ++ ys) → Lists p ys
 lists_back p xs ys f = record {
   inputs = λ m h. f.inputs m (held_append xs ys m ∙ or_right _ _ h);
   outputs = λ m h. f.outputs m (held_append xs ys m ∙ or_right _ _ h);
@@ -151,17 +154,18 @@ picks false false r a b c e f g h = h e
 one_held : (name : List ℕ) → held (name ∷ []) name ≡ true
 one_held name = rw (bytes_same name) refl
 
-named_by : (p : Names) (kind : LeafKind) → has_kind kind ≡ true → Lists p (bit_names kind) → IsNamed p kind
-named_by p (Contacts name neg) e f = let one = one_held name in picks (is_input name) (is_output name) (is_relay name) _ _ _ e (f.inputs name one) (f.outputs name one) (f.relays name one)
-named_by p (Coil name mode) e f = let one = one_held name in picks false (is_output name) (is_relay name) true _ _ e (λ q. refl) (f.outputs name one) (f.relays name one)
-named_by p _ e f = tt
+named_by : (p : Layout) (kind : LeafKind) → has_kind kind ≡ true → Lists p (bit_names kind) → (is_master kind ≡ true → p.has_master ≡ true) → IsNamed p kind
+named_by p (Contacts name neg) e f h = let one = one_held name in picks (is_input name) (is_output name) (is_relay name) _ _ _ e (f.inputs name one) (f.outputs name one) (f.relays name one)
+named_by p (Coil name mode) e f h = let one = one_held name in picks false (is_output name) (is_relay name) true _ _ e (λ q. refl) (f.outputs name one) (f.relays name one)
+named_by p MasterRelay e f h = h refl
+named_by p _ e f h = tt
 
-all_named : (p : Names) (ls : List leaf.Leaf) → all_well_named ls ≡ true → Lists p (all_bits ls) → AllNamed p ls
-all_named p [] e f = tt
-all_named p (l ∷ ls) e f =
+all_named : (p : Layout) (ls : List leaf.Leaf) → all_well_named ls ≡ true → Lists p (all_bits ls) → (any_master ls ≡ true → p.has_master ≡ true) → AllNamed p ls
+all_named p [] e f h = tt
+all_named p (l ∷ ls) e f h =
     let kind : has_kind l.kind ≡ true = grind (arith, e) in
     let rest : all_well_named ls ≡ true = grind (arith, e) in
-    (named_by p l.kind kind (lists_front p (bit_names l.kind) (all_bits ls) f), all_named p ls rest (lists_back p (bit_names l.kind) (all_bits ls) f))
+    (named_by p l.kind kind (lists_front p (bit_names l.kind) (all_bits ls) f) (λ q. h (or_left _ _ q)), all_named p ls rest (lists_back p (bit_names l.kind) (all_bits ls) f) (λ q. h (or_right _ _ q)))
 
 input_kind : (m : List ℕ) → is_input m ≡ true → is_output m ≡ false
 input_kind m e = grind (arith, nat_tests, e)
@@ -172,14 +176,14 @@ relay_kind m e = grind (arith, nat_tests, e)
 held_firsts : (y : Bool) (is_kind : List ℕ → Bool) (ns : List (List ℕ)) → ((m : List ℕ) → is_kind m ≡ true → is_output m ≡ y) → (m : List ℕ) → held ns m ≡ true → is_kind m ≡ true → held (firsts (filter is_kind ns)) m ≡ true
 held_firsts y is_kind ns f m h k = (firsts_seen y (filter is_kind ns) (filter_kind y is_kind ns f)).new m (held_filter is_kind ns m k h)
 
-pub names_named : (gs : List Rung) → all_well_named (all_leaves gs) ≡ true → AllNamed (names_of gs) (all_leaves gs)
+pub names_named : (gs : List Rung) → all_well_named (all_leaves gs) ≡ true → AllNamed (layout_of (names_of gs) (any_master (all_leaves gs))) (all_leaves gs)
 names_named gs e =
     let ns = all_bits (all_leaves gs) in
-    all_named (names_of gs) (all_leaves gs) e (record {
+    all_named (layout_of (names_of gs) (any_master (all_leaves gs))) (all_leaves gs) e (record {
       inputs = held_firsts false is_input ns input_kind;
       outputs = held_firsts true is_output ns (λ m q. q);
       relays = held_firsts false is_relay ns relay_kind;
-    })
+    }) (λ q. q)
 
 pub names_listed : (gs : List Rung) → Listed (names_of gs)
 names_listed gs =

@@ -1,6 +1,7 @@
 pub mod Correct
 pub mod Outcome
-pub mod Places
-pub mod Code
-pub mod Depth
-pub mod Fits
+pub mod Wires
+pub mod ElementCode
+pub mod NodeCode
+pub mod Nesting
+pub mod Masters

@@ -14,6 +14,15 @@ pub record HasSizes (n : Names) (p : IntProgram) : Type 0 where
   pub wires : p.bits ≤ p.kept_bits + 48
   pub starts : p.starts ≡ []
 
+-- the lists and the memories are no more than a project's lines
+pub record IsSmall (n : Names) : Type 0 where
+  pub inputs : length n.inputs ≤ 65536
+  pub outputs : length n.outputs ≤ 65536
+  pub analogs : length n.analog ≤ 65536
+  pub variables : length n.variables ≤ 65536
+  pub persistent : length n.persistent ≤ 65536
+  pub kept : length n.relays + n.memories ≤ 65536
+
 -- the program is small enough for each step behind it
 pub record HasRoom (p : IntProgram) : Type 0 where
   pub ops : length p.ops ≤ 1000000

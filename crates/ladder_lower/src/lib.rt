@@ -1,4 +1,9 @@
-//! From trees to flat operations.
+//! From ladders to flat operations with the same history.
 #![tactic(auto)]
 
-pub mod lower;
+mod element;
+mod layout;
+mod node;
+mod places;
+pub mod program;
+mod survey;

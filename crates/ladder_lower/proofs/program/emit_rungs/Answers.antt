@@ -1,8 +1,8 @@
-use Rattle.std.proofs.Common.{arith}
+use Rattle.std.proofs.Common.{arith, ◌+◌, ◌≤◌}
 use Rattle.ladder_lower.proofs.LoopLemmas.{rung_nesting, fits_less}
-use Rattle.ladder_lower.proofs.lower.emit_rungs.Goals as goal
+use Rattle.ladder_lower.proofs.program.emit_rungs.Goals as goal
 
 pub emit_series-requires-clause-fits : goal.emit_series-requires-clause-fits
 emit_series-requires-clause-fits c =
     let below = rung_nesting c.args.rungs.now c.loop-rung.rung-index c.rung-item.result c.loop-rung-test.true c.rung-item.is in
-    rw c.as_slice.ensures (fits_less c.args.names.now _ _ (omega (arith, below)) c.requires.fits)
+    rw c.as_slice.ensures (fits_less c.args.layout.now _ _ (omega (arith, below)) c.requires.fits)
