@@ -8,10 +8,7 @@ use crate::project::{Node, Project};
 use std::alloc::{AllocError, Global};
 
 /// The elements of a project in file order.
-pub fn leaves_in_order<'a>(
-    alloc: Global,
-    project: &'a Project,
-) -> Result<Vec<&'a Leaf>, AllocError>
+pub fn leaves_in_order<'a>(alloc: Global, project: &'a Project) -> Result<Vec<&'a Leaf>, AllocError>
     ensures { IfOk result (λ v. map (λ l. l.now) v.items ≡ all_leaves project.now.rungs) }
 {
     let mut all = Vec::new(alloc);

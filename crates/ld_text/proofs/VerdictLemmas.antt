@@ -60,8 +60,8 @@ same_line k m f g = omega arith
 pub one_refusal : (text : List ℕ) (line other : ℕ) → IsTextRefusedAt text line → IsTextRefusedAt text other → line ≡ other
 one_refusal text line other h g =
     same_line line other
-      (no_later IsProjectText (is_over text) (lines (judged text)) line other h g)
-      (no_later IsProjectText (is_over text) (lines (judged text)) other line g h)
+    (no_later IsProjectText (is_over text) (lines (judged text)) line other h g)
+    (no_later IsProjectText (is_over text) (lines (judged text)) other line g h)
 
 pub one_verdict : (text : List ℕ) (p : Project) (line : ℕ) → IsReadAs text p → IsTextRefusedAt text line → ⊥
 one_verdict text p line h g = not_both IsProjectText (is_over text) (lines (judged text)) line h.within (p, h.project) g

@@ -7,7 +7,7 @@ ghost use Rattle.ldmicro_top.specs.Ran.{IsCompiledText};
 
 use crate::report::report;
 use interp_code::write::{Text, write_interp};
-use ladder_lower::lower::lower;
+use ladder_lower::program::lower;
 use ladder_tree::names::names_in_order;
 use ld_text::fault::TextError;
 use ld_text::read::read_project;

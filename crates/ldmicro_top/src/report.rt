@@ -28,5 +28,7 @@ pub fn report(alloc: Global, names: &Names, operations: usize) -> Result<String,
 {
     let ram = ram_need(names);
     let eeprom = 2 * names.persistent.len();
-    format!(in alloc; "target Interpretable\noperations {operations}\nram {ram} of 8192\neeprom {eeprom} of 512\ncycles {operations}\n")
+    format!(in alloc;
+        "target Interpretable\noperations {operations}\nram {ram} of 8192\neeprom {eeprom} of 512\ncycles {operations}\n"
+    )
 }

@@ -12,7 +12,11 @@ returns-in-Ok-compile_text-clause-accepted g c y =
 
 pub returns-in-Err-Refused-clause-declined : goal.returns-in-Err-Refused-clause-declined
 returns-in-Err-Refused-clause-declined g c dest = record {
-  why = inr (inr (refl, (λ e. cc), λ y.
-      let b = c.in-Ok.ensures.bytes y in
-      refused_source (g.F.Files.held c.args.files.now) c.args.source.now dest c.deref.result.now c.in-Err-Refused.fault (b.0, b.1, c.deref.ensures.value ∙ b.2) (subst (λ (e : TextError). IsCause c.deref.result.now e) c.in-Err-Refused.field-0-is c.in-Err-Refused.ensures.refused)));
+  why = inr (inr (
+    refl,
+    (λ e. cc),
+    λ y.
+        let b = c.in-Ok.ensures.bytes y in
+        refused_source (g.F.Files.held c.args.files.now) c.args.source.now dest c.deref.result.now c.in-Err-Refused.fault (b.0, b.1, c.deref.ensures.value ∙ b.2) (subst (λ (e : TextError). IsCause c.deref.result.now e) c.in-Err-Refused.field-0-is c.in-Err-Refused.ensures.refused),
+  ));
 }
