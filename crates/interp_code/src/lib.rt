@@ -2,6 +2,9 @@
 #![tactic(auto)]
 
 mod cut;
+mod line;
 mod op_text;
 pub mod program;
+pub mod read;
+mod reader;
 pub mod write;
