@@ -1,9 +1,10 @@
 -- Texts in lines and in pieces.
-use Rattle.std.proofs.Common.{◌≡◌, ◌≢◌, ℕ, suc, ◌<◌, ◌≤◌, Bool, true, false, if◌then◌else◌, ◌==◌, List, [], ◌∷◌, ◌++◌, length, refl, ap, ◌∙◌, inl, inr, arith, All, length-append}
+use Rattle.std.proofs.Common.{None, sym, ◌≡◌, ◌≢◌, ℕ, suc, ◌<◌, ◌≤◌, Bool, true, false, if◌then◌else◌, ◌==◌, List, [], ◌∷◌, ◌++◌, length, refl, ap, ◌∙◌, inl, inr, arith, All, length-append}
 use Rattle.std.proofs.lemmas.Bool.Decides.{nat_tests}
 use Rattle.std.proofs.lemmas.List.Elements.{All-head, All-tail}
 use Rattle.ld_base.specs.Lines.{onto, lines, pieces}
 use Rattle.interp_code.specs.Cut.{IsLine, IsFirstLine, IsFirstPiece}
+use Rattle.interp_code.specs.Line.{line_of, words_say, word_alone, word_with_one, word_with_two}
 
 same : (x : ℕ) → (x == x) ≡ true
 same x = grind (arith, nat_tests)
@@ -75,3 +76,27 @@ last_line (x ∷ xs) clean some = record {
 
 pub first_piece : (s : ℕ) (text piece rest : List ℕ) → IsFirstPiece s text piece rest → pieces s text ≡ piece ∷ pieces s rest
 first_piece s text piece rest h = ap (pieces s) h.parts ∙ pieces-piece s piece rest h.clean
+
+pieces-some : (s : ℕ) (text : List ℕ) → (x : List ℕ) × (xs : List (List ℕ)) × (pieces s text ≡ x ∷ xs)
+pieces-some s [] = ([], [], refl)
+pieces-some s (c ∷ cs) = by (c == s) (pieces-some s cs)
+  where
+    by : (b : Bool) → (x : List ℕ) × (xs : List (List ℕ)) × (pieces s cs ≡ x ∷ xs) → (x : List ℕ) × (xs : List (List ℕ)) × ((if b then [] ∷ pieces s cs else onto c (pieces s cs)) ≡ x ∷ xs)
+    by true more = ([], pieces s cs, refl)
+    by false more = (c ∷ more.0, more.1, ap (onto c) more.2)
+
+-- what a line of so many words says
+pub one_word : (line : List ℕ) → All (λ x. x ≢ 32) line → word_alone line ≡ line_of line
+one_word line clean = sym (ap words_say (pieces-last 32 line clean))
+
+pub two_words : (line word a : List ℕ) → IsFirstPiece 32 line word a → All (λ x. x ≢ 32) a → word_with_one word a ≡ line_of line
+two_words line word a h clean = sym (ap words_say (first_piece 32 line word a h ∙ ap (λ ps. word ∷ ps) (pieces-last 32 a clean)))
+
+pub three_words : (line word behind a b : List ℕ) → IsFirstPiece 32 line word behind → IsFirstPiece 32 behind a b → All (λ x. x ≢ 32) b → word_with_two word a b ≡ line_of line
+three_words line word behind a b h k clean =
+    sym (ap words_say (first_piece 32 line word behind h ∙ ap (λ ps. word ∷ ps) (first_piece 32 behind a b k ∙ ap (λ ps. a ∷ ps) (pieces-last 32 b clean))))
+
+pub more_words : (line word behind a rest b more : List ℕ) → IsFirstPiece 32 line word behind → IsFirstPiece 32 behind a rest → IsFirstPiece 32 rest b more → None ≡ line_of line
+more_words line word behind a rest b more h k m =
+    let last = pieces-some 32 more in
+    sym (ap words_say (first_piece 32 line word behind h ∙ ap (λ ps. word ∷ ps) (first_piece 32 behind a rest k ∙ ap (λ ps. a ∷ ps) (first_piece 32 rest b more m ∙ ap (λ ps. b ∷ ps) last.2))))

@@ -1,7 +1,6 @@
 -- A line that is written reads back.
 use Rattle.std.proofs.Common.{◌≡◌, ◌≢◌, ℕ, ◌^◌, ◌<◌, ◌≤◌, Bool, true, false, not, ◌&&◌, ◌==◌, nat_le, List, [], ◌∷◌, ◌++◌, length, get_or, Some, refl, ap, ◌∙◌, arith, rules, All}
 use Rattle.std.proofs.lemmas.Bool.Decides.{nat_tests}
-use Rattle.std.proofs.Common.{◌-◌}
 use Rattle.std.proofs.lemmas.Bool.{false≢true}
 use Rattle.std.proofs.lemmas.List.Sums.{AllPass-from_list_all}
 use Rattle.std.proofs.lemmas.List.Folds.{list_all-append}
@@ -19,7 +18,7 @@ use Rattle.int_code.specs.declared.op.BitSource.TheVariants as source
 use Rattle.int_code.specs.declared.op.IntOp.{IntOp}
 use Rattle.int_code.specs.declared.op.IntOp.TheVariants.{Set, Clr, Cpy, Not, Ifs, Ifc, Els, Fi}
 use Rattle.int_code.specs.WellFormed.{Sizes, IsDest, IsSource, IsInRange}
-use Rattle.interp_code.specs.Line.{Line, Magic, Cycle, Input, Output, Relay, BitCount, Code, Operation, End, value_behind, digits_to, number_to, index, dest_of, source_of, line_of}
+use Rattle.interp_code.specs.Line.{Line, Magic, Cycle, Input, Output, Relay, BitCount, Code, Operation, End, most_count, value_behind, digits_to, number_to, index, dest_of, source_of, line_of}
 use Rattle.interp_code.specs.Text.{line_text, dest_text, source_text}
 use Rattle.interp_code.proofs.CutLemmas.{pieces-piece, pieces-last}
 
@@ -95,7 +94,7 @@ number_read most n le small = number_is_digits most (decimal n) (decimal_digits 
 
 -- an index below 2 ^ 32
 index_read : (n k : ℕ) → k < n → n ≤ 2 ^ 32 → index (decimal k) ≡ Some k
-index_read n k h small = decimal_read (2 ^ 32 - 1) k (omega arith) (omega arith)
+index_read n k h small = decimal_read most_count k (omega arith) (omega arith)
 
 -- sizes that indexes of 32 bits are below
 pub record IsSmall (n : Sizes) : Type 0 where
@@ -154,9 +153,9 @@ cycle_reads n h = record {
     digits : list_all is_digit (decimal n) ≡ true
     digits = decimal_digits n (omega arith)
 
-pub bits_reads : (n : ℕ) → n ≤ 100000 → Reads (BitCount n)
+pub bits_reads : (n : ℕ) → n ≤ most_count → Reads (BitCount n)
 bits_reads n h = record {
-  of = rw (piece_end 32 (decimal n) (digits_lack 32 (decimal n) (omega arith) digits), number_read 100000 n h (omega arith)) refl;
+  of = rw (piece_end 32 (decimal n) (digits_lack 32 (decimal n) (omega arith) digits), number_read most_count n h (omega arith)) refl;
   clean = digits_lack 10 (decimal n) (omega arith) digits;
 }
   where

@@ -39,7 +39,7 @@ spelled_reads cycle names program w small = (
     AllRead-append (map Input names.inputs) _ (names_read Input input_reads names.inputs w.inputs)
         (AllRead-append (map Output names.outputs) _ (names_read Output output_reads names.outputs w.outputs)
         (AllRead-append (map Relay names.relays) _ (names_read Relay relay_reads names.relays w.relays) (
-          bits_reads program.bits w.bits,
+          bits_reads program.bits (omega (arith, w.sound.few_bits)),
           (
             code_reads,
             AllRead-append (map Operation program.ops) (End ∷ []) (ops_read (sizes_of program) small program.ops w.sound.well_formed.range) (end_reads, tt),
@@ -66,6 +66,7 @@ text_says cycle names program w small = record {
       input_count = w.sound.input_count;
       output_count = w.sound.output_count;
       bit_count = w.sound.bit_count;
+      few_bits = w.sound.few_bits;
       well_formed = record {
         nests = w.sound.well_formed.nests;
         range = w.sound.well_formed.range;

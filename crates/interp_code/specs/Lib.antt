@@ -3,4 +3,9 @@ pub mod Line
 pub mod Text
 pub mod Program
 pub mod Refused
+pub mod Said
+pub mod Draft
+pub mod Held
+pub mod Outcome
+pub mod Caused
 pub mod Machine

@@ -39,9 +39,13 @@ abbrev pub number_to : ℕ → List ℕ → Option ℕ
 number_to most [] = None
 number_to most (c ∷ cs) = if c == 45 then digits_to 0 cs else digits_to most (c ∷ cs)
 
--- the K of bK, xK or yK: no list has more items than 2 ^ 32 - 1
+-- numbers of bits and of list items are below 2 ^ 32
+abbrev pub most_count : ℕ
+most_count = 2 ^ 32 - 1
+
+-- the K of bK, xK or yK
 abbrev pub index : List ℕ → Option ℕ
-index word = digits_to (2 ^ 32 - 1) word
+index word = digits_to most_count word
 
 -- a name has at most 66 bytes
 abbrev pub name : List ℕ → Option (List ℕ)
@@ -60,6 +64,10 @@ source_of (c ∷ cs) =
     else (if c == 120 then option_map source.X (index cs)
     else (if c == 121 then option_map source.Y (index cs) else None))
 
+-- the number of the format
+abbrev pub magic_of : List ℕ → Option Line
+magic_of word = if bytes_eq word (codes "1") then Some Magic else None
+
 abbrev pub word_alone : List ℕ → Option Line
 word_alone word =
     if bytes_eq word (codes "code") then Some Code
@@ -69,12 +77,12 @@ word_alone word =
 
 abbrev pub word_with_one : List ℕ → List ℕ → Option Line
 word_with_one word a =
-    if bytes_eq word (codes "LDint") then (if bytes_eq a (codes "1") then Some Magic else None)
+    if bytes_eq word (codes "LDint") then magic_of a
     else (if bytes_eq word (codes "cycle") then option_map Cycle (number_to 999999999 a)
     else (if bytes_eq word (codes "input") then option_map Input (name a)
     else (if bytes_eq word (codes "output") then option_map Output (name a)
     else (if bytes_eq word (codes "relay") then option_map Relay (name a)
-    else (if bytes_eq word (codes "bits") then option_map BitCount (number_to 100000 a)
+    else (if bytes_eq word (codes "bits") then option_map BitCount (number_to most_count a)
     else (if bytes_eq word (codes "set") then option_map (λ b. Operation (Set b)) (dest_of a)
     else (if bytes_eq word (codes "clr") then option_map (λ b. Operation (Clr b)) (dest_of a)
     else (if bytes_eq word (codes "ifs") then option_map (λ s. Operation (Ifs s)) (source_of a)

@@ -19,6 +19,10 @@ differ_from seen (n ∷ ns) = not (list_any (bytes_eq n) seen) && differ_from (s
 abbrev pub all_differ : List (List ℕ) → Bool
 all_differ names = differ_from [] names
 
+-- how many bits a program may have
+abbrev pub most_bits : ℕ
+most_bits = 100000
+
 -- names and a program that go together
 pub record IsSound (names : Names) (program : IntProgram) : Type 0 where
   pub inputs : all_differ names.inputs ≡ true
@@ -28,6 +32,7 @@ pub record IsSound (names : Names) (program : IntProgram) : Type 0 where
   pub output_count : program.outputs ≡ length names.outputs
   -- the first bits are the relays
   pub bit_count : length names.relays ≤ program.bits
+  pub few_bits : program.bits ≤ most_bits
   pub well_formed : IsWellFormed program
 
 -- how many operations a program may have
@@ -80,5 +85,4 @@ pub record IsWritable (cycle : ℕ) (names : Names) (program : IntProgram) : Typ
   pub outputs : list_all (is_name_within 66) names.outputs ≡ true
   pub relays : list_all (is_name_within 66) names.relays ≡ true
   pub timed : cycle ≤ 999999999
-  pub bits : program.bits ≤ 100000
   pub few : length program.ops ≤ most_operations

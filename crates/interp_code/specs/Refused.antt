@@ -1,17 +1,19 @@
 -- The line at which a text that is no program's is refused.
-use Rattle.std.specs.Prelude.{◌≡◌, ◌⊎◌, ℕ, ◌+◌, ◌-◌, ◌<◌, ◌≤◌, Bool, true, false, List, length, take, count_by, Option, Some}
+use Rattle.std.specs.Prelude.{◌≡◌, ◌⊎◌, ℕ, ◌+◌, ◌-◌, ◌<◌, ◌≤◌, Bool, true, false, List, [], ◌∷◌, length, take, Option, Some}
 use Rattle.ld_base.specs.Refusal.{Begins}
 use Rattle.interp_code.specs.declared.program.InterpProgram.{InterpProgram}
 use Rattle.interp_code.specs.Line.{Line, Operation, line_of}
 use Rattle.interp_code.specs.Program.{Says, IsProgram, most_operations}
 
-abbrev pub says_operation : Option Line → Bool
-says_operation (Some (Operation op)) = true
-says_operation other = false
+-- 1 for an operation's line
+abbrev pub operations_of : Option Line → ℕ
+operations_of (Some (Operation op)) = 1
+operations_of other = 0
 
 -- how many of the lines are operations
 abbrev pub operations_in : List (List ℕ) → ℕ
-operations_in lines = count_by (λ l. says_operation (line_of l)) lines
+operations_in [] = 0
+operations_in (l ∷ ls) = operations_of (line_of l) + operations_in ls
 
 -- Some text goes on behind these lines, and they have no more operations than a program may have.
 pub record IsBegun (lines : List (List ℕ)) : Type 0 where

@@ -2,7 +2,10 @@
 #![tactic(auto)]
 
 mod cut;
+mod line;
 pub mod machine;
 mod op_text;
 pub mod program;
+pub mod read;
+mod reader;
 pub mod write;
