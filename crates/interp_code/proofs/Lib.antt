@@ -1,4 +1,4 @@
-pub mod CutLemmas
+pub mod WordLemmas
 pub mod TextLemmas
 pub mod ReadsBack
 pub mod WholeText

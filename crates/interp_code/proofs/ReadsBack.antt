@@ -19,8 +19,9 @@ use Rattle.int_code.specs.declared.op.IntOp.{IntOp}
 use Rattle.int_code.specs.declared.op.IntOp.TheVariants.{Set, Clr, Cpy, Not, Ifs, Ifc, Els, Fi}
 use Rattle.int_code.specs.WellFormed.{Sizes, IsDest, IsSource, IsInRange}
 use Rattle.interp_code.specs.Line.{Line, Magic, Cycle, Input, Output, Relay, BitCount, Code, Operation, End, most_count, value_behind, digits_to, number_to, index, dest_of, source_of, line_of}
-use Rattle.interp_code.specs.Text.{line_text, dest_text, source_text}
-use Rattle.interp_code.proofs.CutLemmas.{pieces-piece, pieces-last}
+use Rattle.int_code.specs.Text.{dest_text, source_text}
+use Rattle.interp_code.specs.Text.{line_text}
+use Rattle.ld_base.proofs.LineLemmas.{pieces-piece, pieces-last}
 
 pub own : IsNumeralModel (λ ds. list_all is_digit ds ≡ true) (value_behind 0)
 own = numerals_by_fold _ (search rules) value_behind (search rules)

@@ -4,7 +4,9 @@ use Rattle.std.proofs.lemmas.List.{take_more, map-append}
 use Rattle.ladder_tree.specs.declared.names.Names.{Names}
 use Rattle.int_code.specs.declared.op.IntProgram.{IntProgram}
 use Rattle.interp_code.specs.Line.{Line, Magic, Cycle, Input, Output, Relay, BitCount, Code, Operation, End}
-use Rattle.interp_code.specs.Text.{joined, line_text, op_text, interp_text}
+use Rattle.ld_base.specs.Lines.{joined}
+use Rattle.int_code.specs.Text.{op_words}
+use Rattle.interp_code.specs.Text.{line_text, interp_text}
 
 pub joined-append : (a b : List (List ℕ)) → joined (a ++ b) ≡ joined a ++ joined b
 joined-append [] b = refl
@@ -34,7 +36,7 @@ pub parts_written : (cycle : ℕ) (names : Names) (program : IntProgram)
     ++ (joined (map (λ n. codes "output " ++ n) names.outputs)
     ++ (joined (map (λ n. codes "relay " ++ n) names.relays)
     ++ (joined (map line_text (BitCount program.bits ∷ (Code ∷ [])))
-    ++ (joined (map op_text program.ops) ++ codes "end\n"))))) ≡ interp_text cycle names program
+    ++ (joined (map op_words program.ops) ++ codes "end\n"))))) ≡ interp_text cycle names program
 parts_written cycle names program = sym (
     joined-append (map line_text (Magic ∷ (Cycle cycle ∷ []))) (map line_text behind)
     ∙ ap (λ t. head ++ t) (part Input names.inputs outputs

@@ -9,9 +9,10 @@ use Rattle.int_code.specs.declared.op.IntOp.{IntOp}
 use Rattle.int_code.specs.declared.op.IntProgram.{IntProgram}
 use Rattle.int_code.specs.WellFormed.{Sizes, IsInRange, sizes_of}
 use Rattle.interp_code.specs.Line.{Line, Input, Output, Relay, Operation, End, line_of}
-use Rattle.interp_code.specs.Text.{joined, line_text, spelled, interp_text}
+use Rattle.ld_base.specs.Lines.{joined}
+use Rattle.interp_code.specs.Text.{line_text, spelled, interp_text}
 use Rattle.interp_code.specs.Program.{IsWritable, IsProgram, read_as}
-use Rattle.interp_code.proofs.CutLemmas.{lines-line}
+use Rattle.ld_base.proofs.LineLemmas.{lines-line}
 use Rattle.interp_code.proofs.ReadsBack.{Reads, IsSmall, from_lacks, and_left, and_right, magic_reads, cycle_reads, input_reads, output_reads, relay_reads, bits_reads, code_reads, op_reads, end_reads}
 
 -- each of the lines reads back

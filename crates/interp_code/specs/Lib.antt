@@ -1,4 +1,3 @@
-pub mod Cut
 pub mod Line
 pub mod Text
 pub mod Program

@@ -9,7 +9,7 @@ ghost use Rattle.interp_code.specs.Draft.{is_ended, names_of};
 ghost use Rattle.interp_code.specs.Held.{draft, program_of};
 ghost use Rattle.interp_code.specs.Outcome.{IsOutcome};
 
-use crate::cut::split_line;
+use ld_base::lines::split_line;
 use crate::program::InterpProgram;
 use crate::reader::{NameSet, Reader, Stage};
 use int_code::op::IntProgram;

@@ -6,10 +6,11 @@ ghost use Rattle.std.specs.String.{string_bytes};
 ghost use Rattle.ld_base.specs.Lines.{lines};
 ghost use Rattle.ladder_tree.specs.Names.{is_name_within};
 ghost use Rattle.interp_code.specs.Line.{Magic, Cycle, BitCount, Code, End};
-ghost use Rattle.interp_code.specs.Text.{joined, line_text, op_text, interp_text};
+ghost use Rattle.ld_base.specs.Lines.{joined};
+ghost use Rattle.int_code.specs.Text.{op_words};
+ghost use Rattle.interp_code.specs.Text.{line_text, interp_text};
 ghost use Rattle.interp_code.specs.Program.{IsWritable, IsProgram, read_as};
 
-use crate::op_text::OpText;
 use int_code::op::{IntOp, IntProgram};
 use ladder_tree::element::Name;
 use ladder_tree::names::Names;
@@ -85,10 +86,10 @@ fn push_names(text: &mut String, word: &str, names: &[Name]) -> Result<(), Alloc
 
 /// Appends the lines of operations.
 fn push_operations(text: &mut String, ops: &[IntOp]) -> Result<(), AllocError>
-    ensures { OnOk result (string_bytes text.new ≡ string_bytes text.old ++ joined (map op_text ops.now)) }
+    ensures { OnOk result (string_bytes text.new ≡ string_bytes text.old ++ joined (map op_words ops.now)) }
 {
     for op in ops {
-        writeln!(text, "{}", OpText(*op))?;
+        writeln!(text, "{op}")?;
     }
     Ok(())
 }

@@ -1,5 +1,5 @@
 use Rattle.std.proofs.Common.{◌∙◌}
-use Rattle.interp_code.proofs.CutLemmas.{one_word, two_words, three_words, more_words}
+use Rattle.interp_code.proofs.WordLemmas.{one_word, two_words, three_words, more_words}
 use Rattle.interp_code.proofs.line.line_of.Goals as goal
 
 pub returns-in_default : goal.returns-in_default

@@ -2,7 +2,7 @@ use Rattle.std.proofs.Common.{sym, ◌∙◌, arith}
 use Rattle.ld_base.specs.Lines.{lines}
 use Rattle.interp_code.specs.Refused.{judged}
 use Rattle.interp_code.specs.Held.{draft}
-use Rattle.interp_code.proofs.CutLemmas.{length-lines}
+use Rattle.ld_base.proofs.LineLemmas.{length-lines}
 use Rattle.interp_code.proofs.Outcomes.{stopped_refused, long_text, short_text, whole_text, whole_length}
 use Rattle.interp_code.proofs.read.read_interp.Goals as goal
 

@@ -2,7 +2,9 @@ use Rattle.std.proofs.Common.{◌≡◌, ◌∷◌, [], ◌++◌, List, ℕ, cod
 use Rattle.std.specs.String.{string_bytes}
 use Rattle.ld_base.specs.Lines.{lines}
 use Rattle.interp_code.specs.Line.{Magic, Cycle, BitCount, Code}
-use Rattle.interp_code.specs.Text.{joined, line_text, op_text, interp_text}
+use Rattle.ld_base.specs.Lines.{joined}
+use Rattle.int_code.specs.Text.{op_words}
+use Rattle.interp_code.specs.Text.{line_text, interp_text}
 use Rattle.interp_code.specs.Program.{IsProgram, read_as}
 use Rattle.interp_code.proofs.TextLemmas.{parts_written}
 use Rattle.interp_code.proofs.WholeText.{seven, text_says}
@@ -16,13 +18,13 @@ text_is c =
     (joined (map line_text (Magic ∷ (Cycle c.args.cycle ∷ []))))
     (word (codes "input ") c.args.names.now.inputs) (word (codes "output ") c.args.names.now.outputs) (word (codes "relay ") c.args.names.now.relays)
     (joined (map line_text (BitCount c.args.program.now.bits ∷ (Code ∷ []))))
-    (joined (map op_text c.args.program.now.ops)) (codes "end\n")
+    (joined (map op_words c.args.program.now.ops)) (codes "end\n")
     c.new-text.ensures.bytes c.in_ok-push_head.ensures
     (c.in_ok-push_names.ensures ∙ ap (λ ns. string_bytes c.push_head.new.text ++ word (codes "input ") ns) c.as_slice.ensures)
     (c.in_ok-push_names-2.ensures ∙ ap (λ ns. string_bytes c.push_names.new.text ++ word (codes "output ") ns) c.as_slice-2.ensures)
     (c.in_ok-push_names-3.ensures ∙ ap (λ ns. string_bytes c.push_names-2.new.text ++ word (codes "relay ") ns) c.as_slice-3.ensures)
     c.in_ok-push_sizes.ensures
-    (c.in_ok-push_operations.ensures ∙ ap (λ ops. string_bytes c.push_sizes.new.text ++ joined (map op_text ops)) c.as_slice-4.ensures)
+    (c.in_ok-push_operations.ensures ∙ ap (λ ops. string_bytes c.push_sizes.new.text ++ joined (map op_words ops)) c.as_slice-4.ensures)
     c.in_ok-push_str.ensures.bytes
     ∙ parts_written c.args.cycle c.args.names.now c.args.program.now
 
