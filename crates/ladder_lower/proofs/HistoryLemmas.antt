@@ -1,10 +1,7 @@
 -- From nodes to whole histories.
 use Rattle.ladder_lower.specs.Wires.{layout_of}
-use Rattle.std.proofs.Common.{◌≡◌, ◌≢◌, ℕ, zero, suc, ◌+◌, ◌*◌, ◌^◌, ◌<◌, ◌≤◌, ◌⊎◌, inl, inr, ◌&&◌, ◌||◌, not, min, max, Bool, true, false, cond, nat_eq, List, [], ◌∷◌, ◌++◌, length, get_or, drop, map, sum, refl, sym, ap, ◌∙◌, subst, ⊎_elim, arith, rules, append_assoc, append-nil, add-one, drop-cons, length-append}
+use Rattle.std.proofs.Common.{◌≡◌, ℕ, ◌+◌, ◌≤◌, Bool, true, false, List, [], ◌∷◌, map, refl, sym, ap, ◌∙◌, arith}
 use Rattle.ladder_tree.specs.declared.project.Rung.{Rung}
-use Rattle.int_code.specs.declared.op.BitDest.TheVariants as dest
-use Rattle.int_code.specs.declared.op.IntOp.TheVariants.{Cpy, Set}
-use Rattle.int_code.specs.declared.op.BitSource.TheVariants as source
 use Rattle.int_code.specs.Meaning.{Bits, Moment, all_run, run, step, with}
 use Rattle.int_code.specs.Meaning as int
 use Rattle.ladder_meaning.specs.State.{Now, place_of, seen}

@@ -1,17 +1,13 @@
 -- The steps of the loops over nodes.
-use Rattle.std.proofs.Common.{◌≡◌, ◌≢◌, ℕ, zero, suc, ◌+◌, ◌*◌, ◌^◌, ◌-◌, take, ◌<◌, ◌≤◌, ◌⊎◌, inl, inr, ◌&&◌, ◌||◌, not, min, max, Bool, true, false, cond, nat_eq, List, [], ◌∷◌, ◌++◌, length, get_or, drop, map, sum, refl, sym, ap, ◌∙◌, subst, ⊎_elim, arith, rules, append_assoc, append-nil, add-one, drop-cons, length-append}
+use Rattle.std.proofs.Common.{◌≡◌, ◌≢◌, ℕ, zero, suc, ◌+◌, ◌-◌, take, ◌<◌, ◌≤◌, max, Bool, false, nat_eq, List, [], ◌∷◌, ◌++◌, length, get_or, drop, map, refl, sym, ap, ◌∙◌, subst, arith, append_assoc, add-one, drop-cons}
 use Rattle.std.proofs.Math.Nat.{le-max_left}
 use Rattle.ladder_tree.specs.declared.project.Node.{Node}
 use Rattle.int_code.specs.declared.op.IntOp.{IntOp}
-use Rattle.ladder_lower.specs.Wires.{power, master}
 use Rattle.ladder_lower.specs.NodeCode.{Piece, rung_start, rungs_code, memories_of, ends, join, piece, nodes_piece, others_of, fork_code, parallel_of}
 use Rattle.ladder_lower.proofs.NodeLemmas.{again, fork, keep}
 use Rattle.std.proofs.lemmas.Bool.Decides.{nat_tests}
 use Rattle.ladder_lower.specs.Nesting.{nesting, nesting_in, nesting_of_parallel, nesting_of_all}
 use Rattle.ladder_tree.specs.declared.project.Rung.{Rung}
-use Rattle.int_code.specs.declared.op.IntOp.TheVariants.{Cpy}
-use Rattle.int_code.specs.declared.op.BitDest.TheVariants as dest
-use Rattle.int_code.specs.declared.op.BitSource.TheVariants as source
 use Rattle.ladder_lower.specs.Wires.{Fits}
 use Rattle.ladder_lower.specs.declared.layout.Layout.{Layout}
 

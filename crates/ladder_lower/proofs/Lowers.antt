@@ -1,6 +1,6 @@
 -- A part's operations do what the part does.
 use Rattle.ladder_lower.proofs.Stands.{Stands}
-use Rattle.std.proofs.Common.{◌≡◌, ◌≢◌, ℕ, zero, suc, ◌+◌, ◌*◌, ◌^◌, ◌<◌, ◌≤◌, ◌⊎◌, inl, inr, ◌&&◌, ◌||◌, not, min, max, Bool, true, false, cond, nat_eq, List, [], ◌∷◌, ◌++◌, length, get_or, drop, map, sum, refl, sym, ap, ◌∙◌, subst, ⊎_elim, arith, rules, append_assoc, append-nil, add-one, drop-cons, length-append}
+use Rattle.std.proofs.Common.{◌≡◌, ℕ, ◌+◌, ◌<◌, ◌≤◌, true, false}
 use Rattle.int_code.specs.Meaning.{Moment, all_run, run}
 use Rattle.ladder_meaning.specs.State.{Now}
 use Rattle.ladder_meaning.specs.Node.{Part}

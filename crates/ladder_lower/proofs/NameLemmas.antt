@@ -1,6 +1,6 @@
 -- The lists of a project's names: each holds the names of its kind once, and all names that elements have.
 use Rattle.ladder_lower.specs.Wires.{layout_of}
-use Rattle.std.proofs.Common.{◌≡◌, ◌≢◌, ℕ, zero, suc, ◌+◌, ◌*◌, ◌^◌, ◌<◌, ◌≤◌, ◌⊎◌, inl, inr, ◌&&◌, ◌||◌, not, min, max, Bool, true, false, cond, nat_eq, List, [], ◌∷◌, ◌++◌, length, get_or, drop, map, sum, refl, sym, ap, ◌∙◌, subst, ⊎_elim, arith, rules, append_assoc, append-nil, add-one, drop-cons, length-append}
+use Rattle.std.proofs.Common.{◌≡◌, ℕ, zero, suc, ◌+◌, ◌<◌, ◌≤◌, ◌||◌, max, Bool, true, false, cond, List, [], ◌∷◌, ◌++◌, length, refl, ◌∙◌, subst, arith, length-append}
 use Rattle.std.specs.Prelude.{slice_index_or, filter}
 use Rattle.std.specs.List.{list_any}
 use Rattle.std.specs.Str.{bytes_eq}
@@ -13,17 +13,13 @@ use Rattle.ladder_tree.specs.declared.element.LeafKind.TheVariants.{Contacts, Co
 use Rattle.ladder_tree.specs.declared.project.Rung.{Rung}
 use Rattle.ladder_tree.specs.declared.names.Names.{Names}
 use Rattle.ladder_lower.specs.declared.layout.Layout.{Layout}
+use Rattle.ladder_lower.specs.Apart.{Apart}
 use Rattle.ladder_lower.specs.Masters.{is_master, any_master}
 use Rattle.ladder_tree.specs.Leaves.{all_leaves}
 use Rattle.ladder_tree.specs.Names.{is_input, is_output, is_relay, bit_names, all_bits, firsts_from, firsts, names_of, memories, memories_in, has_kind, all_well_named}
 use Rattle.ladder_meaning.specs.State.{place_of}
 use Rattle.ladder_lower.proofs.Stands.{held, IsNamed, AllNamed, IsListed, Listed}
 use Rattle.ladder_lower.proofs.PlaceLemmas.{bytes_tells, bytes_same, held_get}
-
--- each name of a list is apart from those behind it
-abbrev Apart : List (List ℕ) → Type 0
-Apart [] = Unit {0}
-Apart (x ∷ xs) = (held xs x ≡ false) × Apart xs
 
 abbrev OfKind : Bool → List (List ℕ) → Type 0
 OfKind y [] = Unit {0}
@@ -230,4 +226,22 @@ names_counted gs =
       inputs = let c = firsts_count false is_input ns input_kind in omega arith;
       outputs = let c = firsts_count true is_output ns (λ m q. q) in omega arith;
       kept = let c = firsts_count false is_relay ns relay_kind in omega arith;
+    }
+
+-- the lists hold each name once
+pub record EachApart (n : Names) : Type 0 where
+  pub inputs : Apart n.inputs
+  pub outputs : Apart n.outputs
+  pub relays : Apart n.relays
+
+firsts_apart : (y : Bool) (is_kind : List ℕ → Bool) (ns : List (List ℕ)) → ((m : List ℕ) → is_kind m ≡ true → is_output m ≡ y) → Apart (firsts (filter is_kind ns))
+firsts_apart y is_kind ns f = (firsts_seen y (filter is_kind ns) (filter_kind y is_kind ns f)).apart
+
+pub names_apart : (gs : List Rung) → EachApart (names_of gs)
+names_apart gs =
+    let ns = all_bits (all_leaves gs) in
+    record {
+      inputs = firsts_apart false is_input ns input_kind;
+      outputs = firsts_apart true is_output ns (λ m q. q);
+      relays = firsts_apart false is_relay ns relay_kind;
     }

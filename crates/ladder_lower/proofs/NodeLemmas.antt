@@ -1,20 +1,18 @@
 -- The operations of nodes.
 use Rattle.ladder_lower.proofs.Stands.{Stands, AllNamed, IsNamed}
-use Rattle.std.proofs.Common.{◌≡◌, ◌≢◌, ℕ, zero, suc, ◌+◌, ◌*◌, ◌^◌, ◌<◌, ◌≤◌, ◌⊎◌, inl, inr, ◌&&◌, ◌||◌, not, min, max, Bool, true, false, cond, nat_eq, List, [], ◌∷◌, ◌++◌, length, get_or, drop, map, sum, refl, sym, ap, ◌∙◌, subst, ⊎_elim, arith, rules, append_assoc, append-nil, add-one, drop-cons, length-append}
+use Rattle.std.proofs.Common.{◌≡◌, ◌≢◌, ℕ, ◌+◌, ◌<◌, ◌≤◌, ◌||◌, Bool, true, false, cond, List, [], ◌∷◌, ◌++◌, map, refl, sym, ap, ◌∙◌, arith}
 use Rattle.std.proofs.Math.Bool.{or-false, or-true, or_assoc}
 use Rattle.ladder_tree.specs.declared.element.Leaf as leaf
-use Rattle.ladder_tree.specs.declared.project.Node.{Node, Leaf, Series, Parallel}
+use Rattle.ladder_tree.specs.declared.project.Node.{Node}
 use Rattle.ladder_tree.specs.declared.project.Node.TheOpen.{Node-F}
-use Rattle.ladder_tree.specs.declared.project.Node.TheFolds.{fold-roll-Node}
-use Rattle.ladder_tree.specs.declared.project.Node.TheVariants.{rolls-Leaf, rolls-Series, rolls-Parallel}
 use Rattle.ladder_tree.specs.Induct.{Each, node_ind}
 use Rattle.int_code.specs.declared.op.BitDest.TheVariants as dest
 use Rattle.int_code.specs.declared.op.BitSource.TheVariants as source
 use Rattle.ladder_lower.proofs.FoldLemmas.{fold-Leaf, fold-Series, fold-Parallel}
 use Rattle.int_code.specs.declared.op.IntOp.{IntOp}
-use Rattle.int_code.specs.declared.op.IntOp.TheVariants.{Cpy, Clr}
+use Rattle.int_code.specs.declared.op.IntOp.TheVariants.{Cpy}
 use Rattle.ladder_lower.proofs.LeafLemmas.{leaves-Leaf, leaves-Series, leaves-Parallel, named_front, named_back}
-use Rattle.int_code.specs.Meaning.{Moment, all_run, run, step, with}
+use Rattle.int_code.specs.Meaning.{Moment, all_run, run, step}
 use Rattle.ladder_meaning.specs.State.{Now, seen}
 use Rattle.ladder_meaning.specs.Node.{Part, series, parallel, node_step, node, nodes}
 use Rattle.ladder_lower.specs.Wires.{power, wire, masters, outer_wires, wires, in_wire, or_wire}

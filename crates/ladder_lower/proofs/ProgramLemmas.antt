@@ -1,6 +1,6 @@
 -- What is known of a project whose names are its lists.
 use Rattle.ladder_lower.specs.Wires.{layout_of}
-use Rattle.std.proofs.Common.{◌≡◌, ◌≢◌, ℕ, zero, suc, ◌+◌, ◌*◌, ◌^◌, ◌<◌, ◌≤◌, ◌⊎◌, inl, inr, ◌&&◌, ◌||◌, not, min, max, Bool, true, false, cond, nat_eq, List, [], ◌∷◌, ◌++◌, length, get_or, drop, map, sum, refl, sym, ap, ◌∙◌, subst, ⊎_elim, arith, rules, append_assoc, append-nil, add-one, drop-cons, length-append}
+use Rattle.std.proofs.Common.{◌≡◌, ◌+◌, ◌≤◌, Bool, true, false, cond, List, length, ap, arith}
 use Rattle.ladder_tree.specs.declared.names.Names.{Names}
 use Rattle.ladder_tree.specs.declared.project.Rung.{Rung}
 use Rattle.ladder_tree.specs.Leaves.{all_leaves, depth_of_all}
@@ -20,7 +20,7 @@ use Rattle.ladder_lower.specs.Outcome.{HasSizes, IsSmall, HasRoom}
 use Rattle.ladder_lower.proofs.CapLemmas.{program_short}
 use Rattle.ladder_lower.proofs.CountLemmas.{rungs_count_memories, rungs_nested, rungs_sized}
 use Rattle.ladder_lower.proofs.HistoryLemmas.{keeps_history}
-use Rattle.ladder_lower.proofs.NameLemmas.{names_named, names_listed, names_counted}
+use Rattle.ladder_lower.proofs.NameLemmas.{EachApart, names_apart, names_named, names_listed, names_counted}
 use Rattle.ladder_lower.proofs.NestLemmas.{program_nests}
 use Rattle.ladder_lower.proofs.RangeLemmas.{program_in}
 
@@ -49,6 +49,9 @@ small n gs l =
       persistent = rw e (omega arith);
       kept = rw e (let x = c.kept in omega arith);
     }
+
+pub apart : (n : Names) (gs : List Rung) → n ≡ names_of gs → EachApart n
+apart n gs e = rw e (names_apart gs)
 
 -- its layout
 abbrev pub layout : Names → List Rung → Layout

@@ -21,13 +21,18 @@ abbrev pub contact_code : Layout → Bool → List ℕ → List IntOp
 contact_code p true name = Ifs (source_of p name) ∷ Clr (dest.B (power p)) ∷ Fi ∷ []
 contact_code p false name = Ifc (source_of p name) ∷ Clr (dest.B (power p)) ∷ Fi ∷ []
 
+-- The spare wire keeps what comes in, since the memory is read before it becomes that. It is that of OSF where the flag is true.
+abbrev pub edge_code : Bool → Layout → ℕ → List IntOp
+edge_code false p k =
+    Cpy (dest.B (spare p)) (source.B (power p)) ∷ Ifs (source.B (memory_bit p k)) ∷ Clr (dest.B (power p)) ∷ Fi ∷ Cpy (dest.B (memory_bit p k)) (source.B (spare p)) ∷ []
+edge_code true p k =
+    Cpy (dest.B (spare p)) (source.B (power p)) ∷ Not (dest.B (power p)) (source.B (power p)) ∷ Ifc (source.B (memory_bit p k)) ∷ Clr (dest.B (power p)) ∷ Fi ∷ Cpy (dest.B (memory_bit p k)) (source.B (spare p)) ∷ []
+
 abbrev pub element_code : Layout → LeafKind → ℕ → List IntOp
 element_code p (Contacts name neg) k = contact_code p neg name
 element_code p (Coil name how) k = coil_code p how name
-element_code p Osr k =
-    Cpy (dest.B (spare p)) (source.B (power p)) ∷ Ifs (source.B (memory_bit p k)) ∷ Clr (dest.B (power p)) ∷ Fi ∷ Cpy (dest.B (memory_bit p k)) (source.B (spare p)) ∷ []
-element_code p Osf k =
-    Cpy (dest.B (spare p)) (source.B (power p)) ∷ Not (dest.B (power p)) (source.B (power p)) ∷ Ifc (source.B (memory_bit p k)) ∷ Clr (dest.B (power p)) ∷ Fi ∷ Cpy (dest.B (memory_bit p k)) (source.B (spare p)) ∷ []
+element_code p Osr k = edge_code false p k
+element_code p Osf k = edge_code true p k
 element_code p Open k = Clr (dest.B (power p)) ∷ []
 element_code p MasterRelay k =
     Ifs (source.B (master p)) ∷ Cpy (dest.B (master p)) (source.B (power p)) ∷ Els ∷ Set (dest.B (master p)) ∷ Fi ∷ []

@@ -1,3 +1,4 @@
+pub mod Apart
 pub mod Correct
 pub mod Outcome
 pub mod Wires

@@ -1,5 +1,5 @@
 -- Where names, memories and wires stand among the numbered bits: relays, then memories, then wires.
-use Rattle.std.specs.Prelude.{ℕ, ◌+◌, ◌*◌, ◌^◌, ◌<◌, ◌≤◌, min, Bool, true, false, List, length, if◌then◌else◌}
+use Rattle.std.specs.Prelude.{ℕ, ◌+◌, ◌*◌, ◌^◌, ◌<◌, min, Bool, true, false, List, length, if◌then◌else◌}
 use Rattle.ladder_tree.specs.declared.names.Names.{Names}
 use Rattle.ladder_tree.specs.Names.{is_input, is_output}
 use Rattle.ladder_meaning.specs.State.{place_of}

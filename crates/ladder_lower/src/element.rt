@@ -3,7 +3,7 @@
 ghost use Rattle.std.specs.Prelude.{◌≡◌, ◌+◌, ◌<◌, ◌≤◌, ◌++◌, IfOk, OnOk};
 ghost use Rattle.ladder_tree.specs.Names.{memories};
 ghost use Rattle.ladder_tree.specs.declared.element.LeafKind.{LeafKind};
-ghost use Rattle.ladder_lower.specs.ElementCode.{coil_code, contact_code, element_code};
+ghost use Rattle.ladder_lower.specs.ElementCode.{coil_code, contact_code, edge_code, element_code};
 ghost use Rattle.ladder_lower.specs.Wires.{Fits};
 
 use crate::layout::Layout;
@@ -60,52 +60,35 @@ fn emit_coil(
     }
 }
 
-/// The power is kept as it came, switched off where the memory is true, and the memory becomes what was kept.
-fn emit_osr(ops: &mut Ops, layout: &Layout<'_>, memory: u32) -> Result<(), AllocError>
+/// The power is kept on the spare wire as it came, and becomes the memory. OSR switches the power off where the memory
+/// is true. OSF turns the power round, and switches it off where the memory is false.
+fn emit_edge(
+    ops: &mut Ops,
+    layout: &Layout<'_>,
+    memory: u32,
+    is_falling: bool,
+) -> Result<(), AllocError>
     requires fits { Fits layout.now 0 }
     requires room { memory < layout.now.memories }
-    ensures { OnOk result (ops.new ≡ ops.old ++ element_code layout.now LeafKind.Osr memory) }
+    ensures { OnOk result (ops.new ≡ ops.old ++ edge_code is_falling layout.now memory) }
 {
     let power = layout.power();
     let spare = layout.spare();
     let kept = layout.memory_bit(memory);
+    let s = BitSource::B(kept);
     ops.push(IntOp::Cpy {
         b: BitDest::B(spare),
         s: BitSource::B(power),
     })?;
-    ops.push(IntOp::Ifs {
-        s: BitSource::B(kept),
-    })?;
-    ops.push(IntOp::Clr {
-        b: BitDest::B(power),
-    })?;
-    ops.push(IntOp::Fi)?;
-    ops.push(IntOp::Cpy {
-        b: BitDest::B(kept),
-        s: BitSource::B(spare),
-    })
-}
-
-/// The power is kept as it came, turned round, switched off where the memory is false, and the memory becomes what was kept.
-fn emit_osf(ops: &mut Ops, layout: &Layout<'_>, memory: u32) -> Result<(), AllocError>
-    requires fits { Fits layout.now 0 }
-    requires room { memory < layout.now.memories }
-    ensures { OnOk result (ops.new ≡ ops.old ++ element_code layout.now LeafKind.Osf memory) }
-{
-    let power = layout.power();
-    let spare = layout.spare();
-    let kept = layout.memory_bit(memory);
-    ops.push(IntOp::Cpy {
-        b: BitDest::B(spare),
-        s: BitSource::B(power),
-    })?;
-    ops.push(IntOp::Not {
-        b: BitDest::B(power),
-        s: BitSource::B(power),
-    })?;
-    ops.push(IntOp::Ifc {
-        s: BitSource::B(kept),
-    })?;
+    if is_falling {
+        ops.push(IntOp::Not {
+            b: BitDest::B(power),
+            s: BitSource::B(power),
+        })?;
+        ops.push(IntOp::Ifc { s })?;
+    } else {
+        ops.push(IntOp::Ifs { s })?;
+    }
     ops.push(IntOp::Clr {
         b: BitDest::B(power),
     })?;
@@ -159,11 +142,11 @@ pub fn emit_element(
             Ok(memory)
         }
         LeafKind::Osr => {
-            emit_osr(ops, layout, memory)?;
+            emit_edge(ops, layout, memory, false)?;
             Ok(memory + 1)
         }
         LeafKind::Osf => {
-            emit_osf(ops, layout, memory)?;
+            emit_edge(ops, layout, memory, true)?;
             Ok(memory + 1)
         }
         LeafKind::Open => {

@@ -2,6 +2,7 @@
 
 ghost use Rattle.std.specs.Prelude.{◌≡◌, ◌+◌, ◌*◌, ◌^◌, ◌<◌, length, IfOk};
 ghost use Rattle.ladder_tree.specs.Names.{begins_with};
+ghost use Rattle.ladder_lower.specs.Apart.{Apart};
 ghost use Rattle.ladder_lower.specs.Wires.{Fits, layout_of, dest_of, source_of, memory_bit, wire, power, masters, master, spare, outer_wires, wires, in_wire, or_wire};
 
 use crate::places::Places;
@@ -23,6 +24,9 @@ pub struct Layout<'n> {
 impl<'n> Layout<'n> {
     /// The layout of a project's names.
     pub fn new(alloc: Global, names: &'n Names, has_master: bool) -> Result<Layout<'n>, AllocError>
+        requires inputs { Apart names.now.inputs }
+        requires outputs { Apart names.now.outputs }
+        requires relays { Apart names.now.relays }
         ensures { IfOk result (λ p. p ≡ layout_of names.now has_master) }
     {
         Ok(Layout {

@@ -2,31 +2,38 @@
 
 ghost use Rattle.std.specs.Prelude.{◌≡◌, ◌^◌, ◌<◌, length, IfOk};
 ghost use Rattle.ladder_meaning.specs.State.{place_of};
+ghost use Rattle.ladder_lower.specs.Apart.{Apart};
 
+use indexmap::IndexSet;
 use ladder_tree::element::Name;
 use std::alloc::{AllocError, Global};
 use std::marker::Model;
 
-/// A list of names in which a name is found.
+/// A list of names, each once, in which a name is found by its hash.
 #[derive(Drop)]
 pub struct Places<'n> {
-    names: &'n [Name],
+    names: IndexSet<&'n [u8]>,
 }
 
 impl<'n> Model for Places<'n> {
-    ghost use Rattle.std.specs.Prelude.{ℕ, List};
+    ghost use Rattle.std.specs.Prelude.{ℕ, List, map};
 
     ghost Value = { List (List ℕ) };
 
-    ghost view = { λ p. p.names.now };
+    ghost view = { λ p. map (λ k. k.now) p.names.keys };
 }
 
 impl<'n> Places<'n> {
+    /// The places in a list.
     pub fn new(alloc: Global, names: &'n [Name]) -> Result<Places<'n>, AllocError>
+        requires { Apart names.now }
         ensures { IfOk result (λ p. p ≡ names.now) }
     {
-        let _ = alloc;
-        Ok(Places { names })
+        let mut places = IndexSet::new(alloc);
+        for name in names {
+            places.insert(name.as_slice())?;
+        }
+        Ok(Places { names: places })
     }
 
     /// How many names there are.
@@ -41,13 +48,7 @@ impl<'n> Places<'n> {
         requires { length self.now < 2 ^ 32 }
         ensures { result ≡ place_of self.now name.now }
     {
-        let mut place = 0;
-        for x in self.names {
-            if x.as_slice() == name.as_slice() {
-                return place;
-            }
-            place += 1;
-        }
-        place
+        let place = self.names.get_index_of(name.as_slice());
+        place.unwrap_or(self.names.len()) as u32
     }
 }

@@ -70,8 +70,9 @@ fn emit_program(ops: &mut Ops, layout: &Layout<'_>, rungs: &[Rung]) -> Result<()
     ensures { OnOk result (ops.new ≡ ops.old ++ program_code layout.now rungs.now) }
 {
     if layout.has_master {
-        let b = BitDest::B(layout.master());
-        ops.push(IntOp::Set { b })?;
+        ops.push(IntOp::Set {
+            b: BitDest::B(layout.master()),
+        })?;
     }
     emit_rungs(ops, layout, rungs)
 }
@@ -95,10 +96,11 @@ fn emit_rung_start(ops: &mut Ops, layout: &Layout<'_>) -> Result<(), AllocError>
     ensures { OnOk result (ops.new ≡ ops.old ++ rung_start layout.now ∷ []) }
 {
     let b = BitDest::B(layout.power());
-    if layout.has_master {
+    let start = if layout.has_master {
         let s = BitSource::B(layout.master());
-        ops.push(IntOp::Cpy { b, s })
+        IntOp::Cpy { b, s }
     } else {
-        ops.push(IntOp::Set { b })
-    }
+        IntOp::Set { b }
+    };
+    ops.push(start)
 }

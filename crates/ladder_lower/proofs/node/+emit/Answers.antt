@@ -1,10 +1,10 @@
-use Rattle.std.proofs.Common.{rules, arith, ◌≡◌, ◌≢◌, ◌+◌, ◌≤◌, [], ◌∷◌, ◌++◌, drop, refl, ap, ◌∙◌}
+use Rattle.std.proofs.Common.{rules, arith, ◌≡◌, ◌≢◌, ◌+◌, [], ◌∷◌, ◌++◌, drop, refl, ap, ◌∙◌}
 use Rattle.std.proofs.lemmas.Result.{on_ok_weaker, IfOk-weaker}
 use Rattle.ladder_lower.specs.NodeCode.{Piece, piece, others_of}
 use Rattle.ladder_lower.proofs.NodeLemmas.{fork, keep}
 use Rattle.std.proofs.lemmas.Grind.{common_steps}
 use Rattle.ladder_tree.specs.declared.project.Node.TheViews.{the_lemmas}
-use Rattle.ladder_lower.proofs.LoopLemmas.{nesting_at, fits_less, series_step, series_count, others_step, others_count, last_at, behind, not_empty, forks, forks_deep, fork_step}
+use Rattle.ladder_lower.proofs.LoopLemmas.{nesting_at, fits_less, series_step, series_count, others_step, others_count, last_at, behind, not_empty, forks, fork_step}
 use Rattle.ladder_lower.proofs.node.+emit.Goals as goal
 
 pub emit_series-loop-node-preserved : goal.emit_series-loop-node-preserved

@@ -1,4 +1,4 @@
-use Rattle.std.proofs.Common.{arith, ◌+◌, ◌≤◌}
+use Rattle.std.proofs.Common.{arith}
 use Rattle.ladder_lower.proofs.LoopLemmas.{rung_nesting, fits_less}
 use Rattle.ladder_lower.proofs.program.emit_rungs.Goals as goal
 

@@ -1,11 +1,5 @@
-use Rattle.std.proofs.Common.{arith, refl, sym, ap, ◌∙◌, ◌+◌, ◌≤◌, ◌≡◌, List}
-use Rattle.ladder_tree.specs.declared.project.Rung.{Rung}
-use Rattle.ladder_tree.specs.Leaves.{all_leaves}
-use Rattle.ladder_lower.specs.declared.layout.Layout.{Layout}
-use Rattle.ladder_lower.specs.Masters.{any_master}
-use Rattle.ladder_lower.specs.NodeCode.{program_code}
-use Rattle.ladder_lower.specs.Wires.{layout_of}
-use Rattle.ladder_lower.proofs.ProgramLemmas.{Lowered, layout, small, fits, room, keeps, capped, few_wires, formed, roomy}
+use Rattle.std.proofs.Common.{arith, refl}
+use Rattle.ladder_lower.proofs.ProgramLemmas.{apart, small, fits, room, keeps, capped, few_wires, formed, roomy}
 use Rattle.ladder_lower.proofs.program.lower.Goals as goal
 
 pub emit_program-requires-clause-fits : goal.emit_program-requires-clause-fits
@@ -70,3 +64,12 @@ returns-clause-room c =
     let rungs = c.as_slice-rungs.ensures in
     roomy c.args.names.now c.args.project.now.rungs c.in_ok-layout.layout c.assemble.result (record { names = r.names; named = r.named; depth = r.depth; size = r.size }) c.assemble.ensures.sizes
     (rw (c.assemble.ensures.ops, c.in_ok-emit_program.ensures, c.new-ops.ensures, rungs) refl)
+
+pub new-requires-clause-inputs : goal.new-requires-clause-inputs
+new-requires-clause-inputs c = (apart c.args.names.now c.args.project.now.rungs c.requires.names).inputs
+
+pub new-requires-clause-outputs : goal.new-requires-clause-outputs
+new-requires-clause-outputs c = (apart c.args.names.now c.args.project.now.rungs c.requires.names).outputs
+
+pub new-requires-clause-relays : goal.new-requires-clause-relays
+new-requires-clause-relays c = (apart c.args.names.now c.args.project.now.rungs c.requires.names).relays
