@@ -131,8 +131,7 @@ fn name_from(alloc: Global, token: &[u8]) -> Result<Name, AllocError>
 fn contacts(alloc: Global, name: &[u8], flag: &[u8]) -> Result<Option<LeafKind>, AllocError>
     ensures { IfOk result (λ kind. kind ≡ contacts name.now (flag_of flag.now)) }
 {
-    let is_bit =
-        begins_with(b'X', name) || begins_with(b'Y', name) || begins_with(b'R', name);
+    let is_bit = begins_with(b'X', name) || begins_with(b'Y', name) || begins_with(b'R', name);
     match flag_of(flag) {
         Some(neg) if is_bit && is_name(name) => {
             let name = name_from(alloc, name)?;

@@ -124,7 +124,8 @@ mod tests {
     use std::alloc::AllocError;
     use std::test::Fail;
 
-    const HEADER: &str = "LDmicro0.1\nMICRO=Interpretable Byte Code\nCYCLE=10000\nCRYSTAL=4000000\nBAUD=2400\n\nIO LIST\nEND\n\nPROGRAM\n";
+    const HEADER: &str =
+        "LDmicro0.1\nMICRO=Interpretable Byte Code\nCYCLE=10000\nCRYSTAL=4000000\nBAUD=2400\n\nIO LIST\nEND\n\nPROGRAM\n";
 
     /// The text with these lines below the header.
     fn text_with(alloc: Global, body: &str) -> Result<String, AllocError> {
@@ -207,7 +208,10 @@ mod tests {
 
     #[test]
     fn reads_rungs(rt: HostRuntime) -> Result<(), Fail> {
-        let text = text_with(rt.alloc(), "RUNG\n    CONTACTS Xa 1\n    COIL Rb 0 0 1\nEND\n")?;
+        let text = text_with(
+            rt.alloc(),
+            "RUNG\n    CONTACTS Xa 1\n    COIL Rb 0 0 1\nEND\n",
+        )?;
         let Ok(project) = read_project(rt.alloc(), text.as_bytes()) else {
             return Err(Fail::new("refused"));
         };
@@ -216,7 +220,15 @@ mod tests {
                 [Node::Leaf(contacts), Node::Leaf(coil)] => {
                     assert_eq!(rt; (contacts.line, coil.line), (12, 13));
                     assert!(rt; matches!(&contacts.kind, LeafKind::Contacts { neg: true, .. }));
-                    assert!(rt; matches!(&coil.kind, LeafKind::Coil { mode: CoilMode::Reset, .. }));
+                    assert!(rt;
+                        matches!(
+                            &coil.kind,
+                            LeafKind::Coil {
+                                mode: CoilMode::Reset,
+                                ..
+                            }
+                        )
+                    );
                 }
                 _ => assert!(rt; false, "other nodes"),
             },
