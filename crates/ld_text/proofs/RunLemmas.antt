@@ -1,18 +1,16 @@
 -- A text is a project's exactly where its lines lead from the start to rest.
-use Rattle.std.proofs.Common.{◌≡◌, ℕ, suc, ◌+◌, ◌≤◌, Bool, true, false, cond, List, [], ◌∷◌, ◌++◌, length, take, drop, map, Option, Some, None, option_map, option_and_then, refl, sym, ap, subst, ◌∙◌, arith, take-append-drop}
+use Rattle.std.proofs.Common.{◌≡◌, ℕ, ◌+◌, Bool, true, false, cond, List, [], ◌∷◌, ◌++◌, length, take, drop, map, Option, Some, None, option_map, option_and_then, refl, sym, ap, ◌∙◌, arith, take-append-drop}
 use Rattle.std.specs.Str.{bytes_eq}
 use Rattle.std.proofs.lemmas.Slice.Eq.{bytes_eq-Decides}
 use Rattle.ladder_tree.specs.declared.project.Project.{Project}
 use Rattle.ladder_tree.specs.declared.project.Rung.{Rung}
 use Rattle.ladder_tree.specs.declared.project.Node.{Node}
-use Rattle.ladder_tree.specs.Leaves.{depth_of_all}
 use Rattle.ld_text.specs.declared.mark.Mark.{Mark}
-use Rattle.ld_text.specs.declared.mark.Mark.TheVariants as line
 use Rattle.ld_text.specs.declared.reader.Frame.{Frame}
 use Rattle.ld_text.specs.Header.{header_lines, project_of}
 use Rattle.ld_text.specs.Marks.{mark_of_line, marks}
 use Rattle.std.proofs.Common.{codes}
-use Rattle.ld_text.specs.Reading.{closed, Place, Between, Inside, State, Above, Below, ended, after_mark, above, step, start, run, at_rest}
+use Rattle.ld_text.specs.Reading.{closed, Place, Between, Inside, State, Above, Below, after_mark, above, step, start, run, at_rest}
 use Rattle.ld_text.specs.Spelling.{spelled}
 use Rattle.ld_text.specs.Text.{IsProject, IsProjectText}
 use Rattle.ld_base.specs.Refusal.{Begins}

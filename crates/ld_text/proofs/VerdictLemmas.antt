@@ -1,13 +1,11 @@
 -- A text has one verdict.
-use Rattle.std.proofs.Common.{◌≡◌, ℕ, ◌+◌, ◌-◌, ◌<◌, ◌≤◌, Bool, true, false, ltb, List, [], ◌∷◌, ◌++◌, length, take, drop, min, Some, ◌⊎◌, inl, inr, refl, sym, ap, subst, ◌∙◌, arith, append_assoc, length-take, take-append-drop}
+use Rattle.std.proofs.Common.{◌≡◌, ℕ, ◌+◌, ◌-◌, ◌<◌, ◌≤◌, Bool, true, false, ltb, List, ◌++◌, length, take, drop, ◌⊎◌, inl, inr, sym, ap, subst, ◌∙◌, arith, append_assoc, length-take, take-append-drop}
 use Rattle.std.proofs.lemmas.Bool.Decides.{nat_tests}
 use Rattle.std.proofs.lemmas.List.{take-take, take_all}
 use Rattle.ladder_tree.specs.declared.project.Project.{Project}
-use Rattle.ladder_tree.specs.declared.project.Rung.{Rung}
 use Rattle.ld_base.specs.Lines.{lines}
 use Rattle.ld_base.specs.Refusal.{Begins, IsRefusedAt}
 use Rattle.ld_text.specs.Header.{project_of}
-use Rattle.ld_text.specs.Reading.{run, start, at_rest}
 use Rattle.ld_text.specs.Text.{IsProject, IsProjectText, IsReadAs, IsTextRefusedAt, judged, is_over}
 use Rattle.ld_text.proofs.RunLemmas.{leads_to_rest}
 

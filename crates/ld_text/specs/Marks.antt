@@ -1,5 +1,5 @@
 -- What a line of a project's rungs stands for: a table by its tokens.
-use Rattle.std.specs.Prelude.{ℕ, ◌+◌, Bool, true, false, ◌&&◌, ◌==◌, List, [], ◌∷◌, Option, None, Some, option_map, option_and_then, codes, if◌then◌else◌}
+use Rattle.std.specs.Prelude.{ℕ, ◌+◌, Bool, true, false, ◌==◌, List, [], ◌∷◌, Option, None, Some, option_map, option_and_then, codes, if◌then◌else◌}
 use Rattle.std.specs.Str.{bytes_eq}
 use Rattle.ladder_tree.specs.declared.element.CoilMode.{CoilMode}
 use Rattle.ladder_tree.specs.declared.element.CoilMode.TheVariants.{Plain, Negated, Set, Reset}

@@ -7,7 +7,6 @@ use Rattle.ld_base.specs.Refusal.{IsRefusedAt}
 use Rattle.ld_text.specs.Header.{header_lines, project_of}
 use Rattle.ld_text.specs.Marks.{marks}
 use Rattle.ld_text.specs.Spelling.{spelled}
-use Rattle.ld_text.specs.declared.fault.ProjectFault.{ProjectFault}
 use Rattle.ld_text.specs.declared.fault.ProjectFault.TheVariants.{NotBuilt}
 use Rattle.ld_text.specs.declared.fault.TextError.{TextError}
 use Rattle.ld_text.specs.declared.fault.TextError.TheVariants.{Refused, Memory}

@@ -4,7 +4,7 @@
 pub mod fault;
 mod header;
 pub mod laws;
-pub mod mark;
+mod mark;
 mod name;
 pub mod read;
 mod reader;

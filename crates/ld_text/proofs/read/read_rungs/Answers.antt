@@ -1,5 +1,5 @@
-use Rattle.std.proofs.Common.{refl, sym, ap, subst, ◌∙◌, ◌≡◌, List, Some, None, option_map}
-use Rattle.ld_base.specs.Lines.{IsFirstLine, lines}
+use Rattle.std.proofs.Common.{refl, sym, ap, subst, ◌∙◌, option_map}
+use Rattle.ld_base.specs.Lines.{lines}
 use Rattle.ld_base.specs.Refusal.{IsRefusedAt}
 use Rattle.ld_text.specs.Reading.{state_of}
 use Rattle.ld_text.specs.Text.{IsProjectText, IsCauseAt}
