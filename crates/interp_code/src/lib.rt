@@ -2,9 +2,13 @@
 #![tactic(auto)]
 
 mod cut;
+pub mod laws;
 mod line;
 mod op_text;
 pub mod program;
 pub mod read;
 mod reader;
 pub mod write;
+
+#[cfg(test)]
+mod tests;
