@@ -120,7 +120,7 @@ run_relays c is os rs (n ∷ ns) rest few h =
     rw (room, new) (run_relays c is os (rs ++ n ∷ []) ns rest (omega (arith, long)) (and_right (not (list_any (bytes_eq n) rs)) (differ_from (rs ++ n ∷ []) ns) h)
     ∙ ap (λ xs. run (named c is os xs) rest) (append_assoc rs (n ∷ []) ns))
 
-abbrev ended : ℕ → List (List ℕ) → List (List ℕ) → List (List ℕ) → ℕ → List IntOp → Draft
+abbrev pub ended : ℕ → List (List ℕ) → List (List ℕ) → List (List ℕ) → ℕ → List IntOp → Draft
 ended c is os rs n ops = record { stage = stage.Ended; cycle = c; inputs = is; outputs = os; relays = rs; bits = n; ops = ops; ifs = [] }
 
 run_ops : (c : ℕ) (is os rs : List (List ℕ)) (n : ℕ) (done : List IntOp) (es : List Bool) (ops : List IntOp) → All (IsInRange (record { bits = n; outputs = length os; inputs = length is })) ops → nests ops es ≡ true → run (coded c is os rs n done es) (map Operation ops ++ End ∷ []) ≡ Some (ended c is os rs n (done ++ ops))
