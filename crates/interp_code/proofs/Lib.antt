@@ -7,3 +7,4 @@ pub mod NameLemmas
 pub mod Reading
 pub mod Outcomes
 pub mod LevelLemmas
+pub mod RunnableLemmas

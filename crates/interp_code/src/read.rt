@@ -3,6 +3,7 @@
 ghost use Rattle.std.specs.Prelude.{◌≡◌, ◌+◌, ◌≤◌, ◌<◌, ◌^◌, length, IfOk, IfErr};
 ghost use Rattle.ld_base.specs.Lines.{lines};
 ghost use Rattle.interp_code.specs.Program.{IsProgram};
+ghost use Rattle.interp_code.specs.Machine.{IsRunnable};
 ghost use Rattle.interp_code.specs.Refused.{most_bytes, judged};
 ghost use Rattle.interp_code.specs.Caused.{IsCaused};
 ghost use Rattle.interp_code.specs.Draft.{is_ended, names_of};
@@ -55,6 +56,7 @@ pub fn read_interp(alloc: Global, text: &[u8]) -> Result<InterpProgram, InterpEr
     ensures program { IfOk result (λ p. IsProgram (lines text.now) p) }
     ensures within { IfOk result (λ p. length text.now ≤ most_bytes) }
     ensures error { IfErr result (λ e. IsCaused text.now e) }
+    ensures runnable { IfOk result IsRunnable }
 {
     let outcome = match read_lines(alloc, judged(text)) {
         Ok(outcome) => outcome,

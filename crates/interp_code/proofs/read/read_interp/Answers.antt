@@ -3,6 +3,7 @@ use Rattle.ld_base.specs.Lines.{lines}
 use Rattle.interp_code.specs.Refused.{judged}
 use Rattle.interp_code.specs.Held.{draft}
 use Rattle.ld_base.proofs.LineLemmas.{length-lines}
+use Rattle.interp_code.proofs.RunnableLemmas.{runnable}
 use Rattle.interp_code.proofs.Outcomes.{stopped_refused, long_text, short_text, whole_text, whole_length}
 use Rattle.interp_code.proofs.read.read_interp.Goals as goal
 
@@ -37,3 +38,8 @@ pub returns-in-Ok-program-clause-program : goal.returns-in-Ok-program-clause-pro
 returns-in-Ok-program-clause-program c =
     let o = rw (c.in-All.is, c.judged.ensures.front) at c.in-Ok.ensures in
     rw c.in-Ok-program.ensures (whole_text c.args.text.now (draft c.in-All.reader) c.if-text-gt-MOST_BYTES.false o.0 o.1 (sym c.has_ended.ensures ∙ c.if-not-has_ended.false))
+
+pub returns-in-Ok-program-clause-runnable : goal.returns-in-Ok-program-clause-runnable
+returns-in-Ok-program-clause-runnable c =
+    let o = rw (c.in-All.is, c.judged.ensures.front) at c.in-Ok.ensures in
+    rw c.in-Ok-program.ensures (runnable (lines c.args.text.now) _ (whole_text c.args.text.now (draft c.in-All.reader) c.if-text-gt-MOST_BYTES.false o.0 o.1 (sym c.has_ended.ensures ∙ c.if-not-has_ended.false)))
