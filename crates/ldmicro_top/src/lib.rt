@@ -5,4 +5,6 @@ pub mod compile;
 pub mod report;
 pub mod run;
 pub mod status;
+#[cfg(test)]
+mod tests;
 pub mod words;
