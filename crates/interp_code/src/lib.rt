@@ -8,7 +8,6 @@ mod op_text;
 pub mod program;
 pub mod read;
 mod reader;
-pub mod write;
-
 #[cfg(test)]
 mod tests;
+pub mod write;
