@@ -1,4 +1,4 @@
--- How the lines of a text are read, one behind the other.
+-- What the reader does with each line. Its own functions are held to this: what a text says does not rest on it.
 use Rattle.std.specs.Prelude.{◌≡◌, ℕ, Bool, true, false, ◌&&◌, List, [], ◌∷◌, ◌++◌, length, nat_lt, nat_le, nat_eq, map, Option, None, Some, if◌then◌else◌}
 use Rattle.std.specs.Option.{option_map, option_and_then}
 use Rattle.std.specs.List.{list_any}

@@ -1,8 +1,7 @@
 -- What a line says, as the code holds it.
-use Rattle.std.specs.Prelude.{ℕ, List, Option}
 use Rattle.interp_code.specs.declared.line.Line.{Line as Held}
 use Rattle.interp_code.specs.declared.line.Line.TheVariants as held
-use Rattle.interp_code.specs.Line.{Line, Magic, Cycle, Input, Output, Relay, BitCount, Code, Operation, End, name}
+use Rattle.interp_code.specs.Line.{Line, Magic, Cycle, Input, Output, Relay, BitCount, Code, Operation, End}
 
 abbrev pub said : Held → Line
 said held.Magic = Magic
@@ -14,6 +13,3 @@ said (held.BitCount n) = BitCount n
 said held.Code = Code
 said (held.Operation op) = Operation op
 said held.End = End
-
-abbrev pub name_said : List ℕ → Option (List ℕ)
-name_said word = name word

@@ -7,7 +7,6 @@ pub mod machine;
 pub mod program;
 pub mod read;
 mod reader;
-pub mod write;
-
 #[cfg(test)]
 mod tests;
+pub mod write;

@@ -4,8 +4,8 @@ ghost use Rattle.std.specs.Prelude.{◌≡◌};
 ghost use Rattle.std.specs.Option.{option_map};
 ghost use Rattle.std.specs.List.{list_all};
 ghost use Rattle.ladder_tree.specs.Names.{is_name_byte, is_name_within};
-ghost use Rattle.interp_code.specs.Line.{digits_to, number_to, dest_of, source_of, word_alone, word_with_one, word_with_two, line_of, magic_of};
-ghost use Rattle.interp_code.specs.Said.{said, name_said};
+ghost use Rattle.interp_code.specs.Line.{name, digits_to, number_to, dest_of, source_of, word_alone, word_with_one, word_with_two, line_of, magic_of};
+ghost use Rattle.interp_code.specs.Said.{said};
 
 use ld_base::lines::split_piece;
 use int_code::op::{BitDest, BitSource, IntOp};
@@ -137,7 +137,7 @@ fn source_of(word: &[u8]) -> Option<BitSource>
 
 /// The word, if it is a name.
 fn name(word: &[u8]) -> Option<&[u8]>
-    ensures { option_map (λ n. n.now) result ≡ name_said word.now }
+    ensures { option_map (λ n. n.now) result ≡ name word.now }
 {
     if is_name(word) { Some(word) } else { None }
 }

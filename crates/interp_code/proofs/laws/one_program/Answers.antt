@@ -1,6 +1,6 @@
 use Rattle.std.proofs.Common.{◌≡◌, ℕ, List, Some, refl, sym, ap, ◌∙◌}
 use Rattle.interp_code.specs.declared.program.InterpProgram.{InterpProgram}
-use Rattle.interp_code.specs.Program.{IsSound, IsProgram, Says, read_as}
+use Rattle.interp_code.specs.Program.{IsSound, IsProgram, read_as}
 use Rattle.interp_code.specs.Draft.{Draft}
 use Rattle.interp_code.specs.Held.{program_of}
 use Rattle.interp_code.proofs.Reading.{ended, says_ends}
