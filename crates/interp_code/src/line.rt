@@ -7,8 +7,8 @@ ghost use Rattle.ladder_tree.specs.Names.{is_name_byte, is_name_within};
 ghost use Rattle.interp_code.specs.Line.{name, digits_to, number_to, dest_of, source_of, word_alone, word_with_one, word_with_two, line_of, magic_of};
 ghost use Rattle.interp_code.specs.Said.{said};
 
-use ld_base::lines::split_piece;
 use int_code::op::{BitDest, BitSource, IntOp};
+use ld_base::lines::split_piece;
 
 /// What a line says.
 #[derive(Clone, Copy)]

@@ -10,12 +10,12 @@ ghost use Rattle.interp_code.specs.Draft.{is_ended, names_of};
 ghost use Rattle.interp_code.specs.Held.{draft, program_of};
 ghost use Rattle.interp_code.specs.Outcome.{IsOutcome};
 
-use ld_base::lines::split_line;
 use crate::program::InterpProgram;
 use crate::reader::{NameSet, Reader, Stage};
 use int_code::op::IntProgram;
 use ladder_tree::element::{Name, Nums};
 use ladder_tree::names::{NameList, Names};
+use ld_base::lines::split_line;
 use std::alloc::{AllocError, Global};
 use thiserror::Error;
 
