@@ -104,3 +104,68 @@ fn emit_rung_start(ops: &mut Ops, layout: &Layout<'_>) -> Result<(), AllocError>
     };
     ops.push(start)
 }
+
+#[cfg(test)]
+mod tests {
+    use super::*;
+    use chip_tables::target::Target;
+    use ladder_tree::element::{Leaf, LeafKind};
+    use ladder_tree::names::NameList;
+    use ladder_tree::project::{Node, Nodes, PinList, Rungs};
+    use std::test::Fail;
+
+    #[test]
+    fn lowers_a_master_relay_behind_an_open(rt: HostRuntime) -> Result<(), Fail> {
+        let alloc = rt.alloc();
+        let mut nodes = Nodes::new(alloc);
+        nodes.push(Node::Leaf(Leaf {
+            line: 2,
+            kind: LeafKind::Open,
+        }))?;
+        nodes.push(Node::Leaf(Leaf {
+            line: 3,
+            kind: LeafKind::MasterRelay,
+        }))?;
+        let mut rungs = Rungs::new(alloc);
+        rungs.push(Rung { nodes })?;
+        let project = Project {
+            target: Target::Interp,
+            cycle: 10_000,
+            crystal: 4_000_000,
+            baud: 2400,
+            pins: PinList::new(alloc),
+            rungs,
+        };
+        let names = Names {
+            inputs: NameList::new(alloc),
+            outputs: NameList::new(alloc),
+            relays: NameList::new(alloc),
+            variables: NameList::new(alloc),
+            analog: NameList::new(alloc),
+            persistent: NameList::new(alloc),
+            memories: 0,
+        };
+        let program = lower(alloc, &project, &names)?;
+        let power = BitDest::B(0);
+        let master = BitDest::B(1);
+        let want = [
+            IntOp::Set { b: master },
+            IntOp::Cpy {
+                b: power,
+                s: BitSource::B(1),
+            },
+            IntOp::Clr { b: power },
+            IntOp::Ifs { s: BitSource::B(1) },
+            IntOp::Cpy {
+                b: master,
+                s: BitSource::B(0),
+            },
+            IntOp::Els,
+            IntOp::Set { b: master },
+            IntOp::Fi,
+        ];
+        assert_eq!(rt; program.ops.as_slice(), want.as_slice());
+        assert_eq!(rt; program.bits, 2);
+        Ok(())
+    }
+}
