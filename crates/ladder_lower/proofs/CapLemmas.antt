@@ -1,23 +1,23 @@
 -- How many operations there are at most.
 use Rattle.std.proofs.Common.{◌≡◌, ℕ, ◌+◌, ◌*◌, ◌≤◌, Bool, true, false, List, [], ◌∷◌, ◌++◌, length, map, refl, arith, length-append}
-use Rattle.std.proofs.lemmas.List.{length-map}
 use Rattle.std.proofs.lemmas.List.Sums.{sum_by-cons}
-use Rattle.ladder_tree.specs.declared.element.CoilMode.{CoilMode}
-use Rattle.ladder_tree.specs.declared.element.CoilMode.TheVariants as mode
-use Rattle.ladder_tree.specs.declared.element.LeafKind.{LeafKind}
-use Rattle.ladder_tree.specs.declared.element.LeafKind.TheVariants.{Contacts, Coil, Osr, Osf, Open, MasterRelay}
-use Rattle.ladder_lower.specs.declared.layout.Layout.{Layout}
-use Rattle.ladder_tree.specs.declared.element.Leaf as leaf
-use Rattle.ladder_tree.specs.declared.project.Node.{Node, Leaf, Series, Parallel}
-use Rattle.ladder_tree.specs.declared.project.Rung.{Rung}
+use Rattle.std.proofs.lemmas.List.{length-map}
 use Rattle.ladder_tree.specs.Induct.{Each, node_ind}
 use Rattle.ladder_tree.specs.Size.{size_of, size_in, size_step, size_of_all}
+use Rattle.ladder_tree.specs.declared.element.CoilMode.TheVariants as mode
+use Rattle.ladder_tree.specs.declared.element.CoilMode.{CoilMode}
+use Rattle.ladder_tree.specs.declared.element.Leaf as leaf
+use Rattle.ladder_tree.specs.declared.element.LeafKind.TheVariants.{Contacts, Coil, Osr, Osf, Open, MasterRelay}
+use Rattle.ladder_tree.specs.declared.element.LeafKind.{LeafKind}
+use Rattle.ladder_tree.specs.declared.project.Node.{Node, Leaf, Series, Parallel}
+use Rattle.ladder_tree.specs.declared.project.Rung.{Rung}
 use Rattle.int_code.specs.Caps.{element_cap, node_cap, nodes_cap, cap_step, rungs_cap, ops_cap}
 use Rattle.int_code.specs.declared.op.IntOp.{IntOp}
 use Rattle.ladder_lower.specs.ElementCode.{coil_code, contact_code, element_code}
 use Rattle.ladder_lower.specs.NodeCode.{Piece, series_code, ends, join, others_code, parallel_code, piece, piece_step, nodes_piece, rungs_code, start_by, program_code}
-use Rattle.ladder_lower.proofs.NodeLemmas.{keep}
+use Rattle.ladder_lower.specs.declared.layout.Layout.{Layout}
 use Rattle.ladder_lower.proofs.FoldLemmas.{fold-Leaf, fold-Series, fold-Parallel}
+use Rattle.ladder_lower.proofs.NodeLemmas.{keep}
 
 -- how many operations there are, by two bounds
 pub record IsShort (ops : List IntOp) (cap lines : ℕ) : Type 0 where

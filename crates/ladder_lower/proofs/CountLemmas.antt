@@ -1,16 +1,16 @@
 -- How many elements and memories trees have, and how deep PARALLELs stand in them.
 use Rattle.std.proofs.Common.{◌≡◌, ℕ, ◌+◌, ◌≤◌, List, [], ◌∷◌, ◌++◌, length, map, sum, refl, arith, length-append}
 use Rattle.std.proofs.lemmas.List.Sums.{sum_by-cons}
-use Rattle.ladder_tree.specs.declared.element.Leaf as leaf
-use Rattle.ladder_lower.specs.declared.layout.Layout.{Layout}
-use Rattle.ladder_tree.specs.declared.project.Node.{Node}
-use Rattle.ladder_tree.specs.declared.project.Rung.{Rung}
 use Rattle.ladder_tree.specs.Induct.{Each, node_ind}
 use Rattle.ladder_tree.specs.Leaves.{largest, leaves, leaves_in, leaves_step, all_leaves, depth_of, depth_step, depth_of_all}
 use Rattle.ladder_tree.specs.Names.{memories_in}
 use Rattle.ladder_tree.specs.Size.{size_of, size_step, size_of_all}
-use Rattle.ladder_lower.specs.NodeCode.{parallel_code, Piece, series_code, others_code, piece, piece_step, memories_of}
+use Rattle.ladder_tree.specs.declared.element.Leaf as leaf
+use Rattle.ladder_tree.specs.declared.project.Node.{Node}
+use Rattle.ladder_tree.specs.declared.project.Rung.{Rung}
 use Rattle.ladder_lower.specs.Nesting.{nesting_of_branches, nesting, nesting_step, nesting_of_all}
+use Rattle.ladder_lower.specs.NodeCode.{parallel_code, Piece, series_code, others_code, piece, piece_step, memories_of}
+use Rattle.ladder_lower.specs.declared.layout.Layout.{Layout}
 use Rattle.ladder_lower.proofs.FoldLemmas.{fold-Leaf, fold-Series, fold-Parallel}
 
 memories_append : (a b : List leaf.Leaf) → memories_in (a ++ b) ≡ memories_in a + memories_in b

@@ -1,25 +1,25 @@
 -- The operations of each element.
-use Rattle.std.specs.Prelude.{slice_index_or}
-use Rattle.ladder_lower.proofs.Stands.{Stands, IsHeld, IsNamed}
 use Rattle.std.proofs.Common.{◌≡◌, ◌≢◌, ℕ, ◌+◌, ◌<◌, ◌≤◌, ◌&&◌, not, Bool, true, false, cond, nat_eq, List, refl, sym, ap, ◌∙◌, subst, arith}
-use Rattle.ladder_tree.specs.declared.element.LeafKind.{LeafKind}
-use Rattle.ladder_tree.specs.declared.element.LeafKind.TheVariants.{Contacts, Coil, Osr, Osf, Open, MasterRelay}
-use Rattle.ladder_tree.specs.declared.element.CoilMode.{CoilMode}
+use Rattle.std.proofs.Math.Bool.{and-false, and-true, not-not}
+use Rattle.std.specs.Prelude.{slice_index_or}
+use Rattle.ladder_tree.specs.Names.{is_output, is_input, memories}
 use Rattle.ladder_tree.specs.declared.element.CoilMode.TheVariants as mode
-use Rattle.int_code.specs.Meaning.{Bits, Moment, all_run, run, value_of, with}
+use Rattle.ladder_tree.specs.declared.element.CoilMode.{CoilMode}
+use Rattle.ladder_tree.specs.declared.element.LeafKind.TheVariants.{Contacts, Coil, Osr, Osf, Open, MasterRelay}
+use Rattle.ladder_tree.specs.declared.element.LeafKind.{LeafKind}
+use Rattle.ladder_meaning.specs.Element.{element, coil}
 use Rattle.ladder_meaning.specs.State as ladder
 use Rattle.ladder_meaning.specs.State.{Now, with_bit, with_memory, with_master, place_of, seen}
-use Rattle.ladder_lower.proofs.PlaceLemmas.{place_below}
-use Rattle.ladder_lower.specs.Wires.{masters, master, spare, outer_wires, power, wire, source_by, source_of, dest_by, dest_of, memory_bit}
-use Rattle.int_code.specs.declared.op.BitDest.TheVariants as dest
-use Rattle.std.proofs.Math.Bool.{and-false, and-true, not-not}
-use Rattle.ladder_lower.specs.ElementCode.{element_code, contact_code, coil_code}
-use Rattle.ladder_lower.proofs.WriteLemmas.{wire_write, name_write, memory_write, master_write, same, other}
-use Rattle.ladder_lower.proofs.Lowers.{After}
-use Rattle.ladder_tree.specs.Names.{is_output, is_input, memories}
-use Rattle.ladder_lower.specs.declared.layout.Layout.{Layout}
-use Rattle.ladder_meaning.specs.Element.{element, coil}
 use Rattle.ladder_meaning.specs.declared.reading.Reading.{Reading}
+use Rattle.int_code.specs.Meaning.{Bits, Moment, all_run, run, value_of, with}
+use Rattle.int_code.specs.declared.op.BitDest.TheVariants as dest
+use Rattle.ladder_lower.specs.ElementCode.{element_code, contact_code, coil_code}
+use Rattle.ladder_lower.specs.Wires.{masters, master, spare, outer_wires, power, wire, source_by, source_of, dest_by, dest_of, memory_bit}
+use Rattle.ladder_lower.specs.declared.layout.Layout.{Layout}
+use Rattle.ladder_lower.proofs.Lowers.{After}
+use Rattle.ladder_lower.proofs.PlaceLemmas.{place_below}
+use Rattle.ladder_lower.proofs.Stands.{Stands, IsHeld, IsNamed}
+use Rattle.ladder_lower.proofs.WriteLemmas.{wire_write, name_write, memory_write, master_write, same, other}
 
 contact_asleep : (p : Layout) (r : Reading) (neg : Bool) (name : List ℕ) (m : Moment) → all_run m.ifs ≡ false → run r (contact_code p neg name) m ≡ m
 contact_asleep p r true name m e = rw e refl

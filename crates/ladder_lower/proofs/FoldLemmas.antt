@@ -1,10 +1,10 @@
 -- What a fold over nodes is at each kind of node.
 use Rattle.std.proofs.Common.{◌≡◌, List, map, sym, ap, ◌∙◌}
 use Rattle.ladder_tree.specs.declared.element.Leaf as leaf
-use Rattle.ladder_tree.specs.declared.project.Node.{Node, Leaf, Series, Parallel}
-use Rattle.ladder_tree.specs.declared.project.Node.TheOpen.{Node-F}
 use Rattle.ladder_tree.specs.declared.project.Node.TheFolds.{fold-Node, fold-roll-Node}
+use Rattle.ladder_tree.specs.declared.project.Node.TheOpen.{Node-F}
 use Rattle.ladder_tree.specs.declared.project.Node.TheVariants.{rolls-Leaf, rolls-Series, rolls-Parallel}
+use Rattle.ladder_tree.specs.declared.project.Node.{Node, Leaf, Series, Parallel}
 
 module _ (A : Type 0) (at : Node-F A → A) where
   pub fold-Leaf : (l : leaf.Leaf) → fold-Node A at (Leaf l) ≡ at (Node-F.Leaf l)

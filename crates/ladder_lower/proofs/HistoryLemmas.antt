@@ -1,25 +1,23 @@
 -- From nodes to whole histories.
-use Rattle.ladder_lower.specs.Wires.{layout_of}
 use Rattle.std.proofs.Common.{◌≡◌, ℕ, ◌+◌, ◌≤◌, Bool, true, false, List, [], ◌∷◌, map, refl, sym, ap, ◌∙◌, arith}
+use Rattle.ladder_tree.specs.Leaves.{leaves_in, all_leaves}
+use Rattle.ladder_tree.specs.declared.names.Names.{Names}
 use Rattle.ladder_tree.specs.declared.project.Rung.{Rung}
-use Rattle.int_code.specs.Meaning.{Bits, Moment, all_run, run, step, with}
-use Rattle.int_code.specs.Meaning as int
-use Rattle.ladder_meaning.specs.State.{Now, place_of, seen}
-use Rattle.ladder_meaning.specs.Node.{nodes}
 use Rattle.ladder_meaning.specs.Cycle.{State, rungs, begin, end_of, cycle, history}
-use Rattle.ladder_lower.specs.Wires.{memory_bit, power, master}
+use Rattle.ladder_meaning.specs.Node.{nodes}
+use Rattle.ladder_meaning.specs.State.{Now, place_of, seen}
+use Rattle.ladder_meaning.specs.declared.reading.Reading.{Reading}
+use Rattle.int_code.specs.Meaning as int
+use Rattle.int_code.specs.Meaning.{Bits, Moment, all_run, run, step, with}
+use Rattle.ladder_lower.specs.Correct.{Shows, ShowsAll, KeepsHistory}
+use Rattle.ladder_lower.specs.NodeCode.{rung_start_by, rung_start, rungs_code, start_by, program_code, nodes_piece, memories_of}
+use Rattle.ladder_lower.specs.Wires.{layout_of, memory_bit, power, master}
+use Rattle.ladder_lower.specs.declared.layout.Layout.{Layout}
+use Rattle.ladder_lower.proofs.LeafLemmas.{named_front, named_back}
+use Rattle.ladder_lower.proofs.NodeLemmas.{nodes_lower, run-append}
 use Rattle.ladder_lower.proofs.PlaceLemmas.{place_below, get_place, held_get}
 use Rattle.ladder_lower.proofs.Stands.{Stands, AllNamed, Listed}
-use Rattle.ladder_lower.specs.NodeCode.{rung_start_by, rung_start, rungs_code, start_by, program_code, nodes_piece, memories_of}
-use Rattle.ladder_tree.specs.declared.names.Names.{Names}
-use Rattle.ladder_lower.specs.Correct.{Shows, ShowsAll, KeepsHistory}
-use Rattle.ladder_lower.proofs.LeafLemmas.{named_front, named_back}
 use Rattle.ladder_lower.proofs.WriteLemmas.{wire_write, same, other}
-use Rattle.ladder_lower.proofs.NodeLemmas.{nodes_lower, run-append}
-use Rattle.ladder_lower.specs.declared.layout.Layout.{Layout}
-use Rattle.ladder_meaning.specs.declared.reading.Reading.{Reading}
-use Rattle.ladder_tree.specs.Leaves.{leaves_in, all_leaves}
-use Rattle.ladder_lower.proofs.Stands.{AllNamed, Stands}
 
 record RungsAfter (p : Layout) (m l : Moment) (s : Now) : Type 0 where
   ifs : l.ifs ≡ m.ifs

@@ -1,21 +1,20 @@
-use Rattle.ladder_lower.proofs.Stands.{AllNamed}
-use Rattle.std.proofs.Common.{◌≡◌, List, [], ◌∷◌, ◌++◌, sym, ap, ◌∙◌}
+-- The elements of nodes, and the names of parts of a list of them.
+use Rattle.std.proofs.Common.{◌≡◌, List, [], ◌∷◌, ◌++◌}
+use Rattle.ladder_tree.specs.Leaves.{leaves, leaves_in, leaves_step}
 use Rattle.ladder_tree.specs.declared.element.Leaf as leaf
 use Rattle.ladder_tree.specs.declared.project.Node.{Node, Leaf, Series, Parallel}
-use Rattle.ladder_tree.specs.declared.project.Node.TheOpen.{Node-F}
-use Rattle.ladder_tree.specs.declared.project.Node.TheFolds.{fold-roll-Node}
-use Rattle.ladder_tree.specs.declared.project.Node.TheVariants.{rolls-Leaf, rolls-Series, rolls-Parallel}
 use Rattle.ladder_lower.specs.declared.layout.Layout.{Layout}
-use Rattle.ladder_tree.specs.Leaves.{leaves, leaves_in, leaves_step}
+use Rattle.ladder_lower.proofs.FoldLemmas.{fold-Leaf, fold-Series, fold-Parallel}
+use Rattle.ladder_lower.proofs.Stands.{AllNamed}
 
 pub leaves-Leaf : (l : leaf.Leaf) → leaves (Leaf l) ≡ l ∷ []
-leaves-Leaf l = ap leaves (sym (rolls-Leaf l)) ∙ fold-roll-Node (List leaf.Leaf) leaves_step (Node-F.Leaf l)
+leaves-Leaf = fold-Leaf (List leaf.Leaf) leaves_step
 
 pub leaves-Series : (ns : List Node) → leaves (Series ns) ≡ leaves_in ns
-leaves-Series ns = ap leaves (sym (rolls-Series ns)) ∙ fold-roll-Node (List leaf.Leaf) leaves_step (Node-F.Series ns)
+leaves-Series = fold-Series (List leaf.Leaf) leaves_step
 
 pub leaves-Parallel : (ns : List Node) → leaves (Parallel ns) ≡ leaves_in ns
-leaves-Parallel ns = ap leaves (sym (rolls-Parallel ns)) ∙ fold-roll-Node (List leaf.Leaf) leaves_step (Node-F.Parallel ns)
+leaves-Parallel = fold-Parallel (List leaf.Leaf) leaves_step
 
 pub named_front : (p : Layout) (a b : List leaf.Leaf) → AllNamed p (a ++ b) → AllNamed p a
 named_front p [] b h = tt

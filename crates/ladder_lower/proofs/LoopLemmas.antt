@@ -1,15 +1,15 @@
 -- The steps of the loops over nodes.
 use Rattle.std.proofs.Common.{◌≡◌, ◌≢◌, ℕ, zero, suc, ◌+◌, ◌-◌, take, ◌<◌, ◌≤◌, max, Bool, false, nat_eq, List, [], ◌∷◌, ◌++◌, length, get_or, drop, map, refl, sym, ap, ◌∙◌, subst, arith, append_assoc, add-one, drop-cons}
 use Rattle.std.proofs.Math.Nat.{le-max_left}
-use Rattle.ladder_tree.specs.declared.project.Node.{Node}
-use Rattle.int_code.specs.declared.op.IntOp.{IntOp}
-use Rattle.ladder_lower.specs.NodeCode.{Piece, rung_start, rungs_code, memories_of, ends, join, piece, nodes_piece, others_of, fork_code, parallel_of}
-use Rattle.ladder_lower.proofs.NodeLemmas.{again, fork, keep}
 use Rattle.std.proofs.lemmas.Bool.Decides.{nat_tests}
-use Rattle.ladder_lower.specs.Nesting.{nesting, nesting_in, nesting_of_parallel, nesting_of_all}
+use Rattle.ladder_tree.specs.declared.project.Node.{Node}
 use Rattle.ladder_tree.specs.declared.project.Rung.{Rung}
+use Rattle.int_code.specs.declared.op.IntOp.{IntOp}
+use Rattle.ladder_lower.specs.Nesting.{nesting, nesting_in, nesting_of_parallel, nesting_of_all}
+use Rattle.ladder_lower.specs.NodeCode.{Piece, rung_start, rungs_code, memories_of, ends, join, piece, nodes_piece, others_of, fork_code, parallel_of}
 use Rattle.ladder_lower.specs.Wires.{Fits}
 use Rattle.ladder_lower.specs.declared.layout.Layout.{Layout}
+use Rattle.ladder_lower.proofs.NodeLemmas.{again, fork, keep}
 
 at_front : (ns : List Node) (i : ℕ) (n : Node) → i < length ns → n ≡ get_or ns i n → drop i ns ≡ n ∷ drop (i + 1) ns
 at_front ns i n lt is = rw add-one (drop-cons ns i n lt ∙ ap (λ x. x ∷ drop (suc i) ns) (sym is))
@@ -59,9 +59,6 @@ behind_is (n ∷ ns) = taken_by ns (length (n ∷ ns) - 1) (omega arith)
 pub front_of : (ns : List Node) (n : Node) → 1 ≤ length ns → n ≡ get_or ns 0 n → ns ≡ n ∷ behind ns
 front_of [] n le is = absurd (omega arith)
 front_of (x ∷ ns) n le is = ap (λ l. x ∷ l) (sym (taken_by ns (length (x ∷ ns) - 1) (omega arith))) ∙ ap (λ y. y ∷ behind (x ∷ ns)) (sym is)
-
-pub only_one : (ns : List Node) (n : Node) → 1 ≤ length ns → n ≡ get_or ns 0 n → behind ns ≡ [] → ns ≡ n ∷ []
-only_one ns n le is e = front_of ns n le is ∙ ap (λ l. n ∷ l) e
 
 pub not_empty : (ns : List Node) (b : Bool) → b ≡ nat_eq (length ns) 0 → b ≡ false → ns ≢ []
 not_empty [] b e f = absurd (grind (arith, nat_tests, e, f))

@@ -1,14 +1,14 @@
 -- A part's operations do what the part does.
-use Rattle.ladder_lower.proofs.Stands.{Stands}
 use Rattle.std.proofs.Common.{◌≡◌, ℕ, ◌+◌, ◌<◌, ◌≤◌, true, false}
-use Rattle.int_code.specs.Meaning.{Moment, all_run, run}
-use Rattle.ladder_meaning.specs.State.{Now}
-use Rattle.ladder_meaning.specs.Node.{Part}
-use Rattle.ladder_lower.specs.Wires.{outer_wires, wires, power, wire}
-use Rattle.ladder_lower.specs.NodeCode.{Piece}
-use Rattle.ladder_lower.specs.declared.layout.Layout.{Layout}
 use Rattle.ladder_meaning.specs.Element.{Went}
+use Rattle.ladder_meaning.specs.Node.{Part}
+use Rattle.ladder_meaning.specs.State.{Now}
 use Rattle.ladder_meaning.specs.declared.reading.Reading.{Reading}
+use Rattle.int_code.specs.Meaning.{Moment, all_run, run}
+use Rattle.ladder_lower.specs.NodeCode.{Piece}
+use Rattle.ladder_lower.specs.Wires.{outer_wires, wires, power, wire}
+use Rattle.ladder_lower.specs.declared.layout.Layout.{Layout}
+use Rattle.ladder_lower.proofs.Stands.{Stands}
 
 -- the later moment shows what the part did, and the wires of the d outer PARALLELs stay
 pub record After (p : Layout) (d : ℕ) (m l : Moment) (w : Went) : Type 0 where

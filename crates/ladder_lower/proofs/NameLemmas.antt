@@ -1,25 +1,25 @@
 -- The lists of a project's names: each holds the names of its kind once, and all names that elements have.
-use Rattle.ladder_lower.specs.Wires.{layout_of}
 use Rattle.std.proofs.Common.{◌≡◌, ℕ, zero, suc, ◌+◌, ◌<◌, ◌≤◌, ◌||◌, max, Bool, true, false, cond, List, [], ◌∷◌, ◌++◌, length, refl, ◌∙◌, subst, arith, length-append}
-use Rattle.std.specs.Prelude.{slice_index_or, filter}
-use Rattle.std.specs.List.{list_any}
-use Rattle.std.specs.Str.{bytes_eq}
-use Rattle.std.proofs.lemmas.Slice.Eq.{bytes_eq-Decides}
-use Rattle.std.proofs.lemmas.List.Folds.{list_any-append}
 use Rattle.std.proofs.lemmas.Bool.Decides.{nat_tests}
-use Rattle.ladder_tree.specs.declared.element.Leaf as leaf
-use Rattle.ladder_tree.specs.declared.element.LeafKind.{LeafKind}
-use Rattle.ladder_tree.specs.declared.element.LeafKind.TheVariants.{Contacts, Coil, MasterRelay, Osr, Osf, Counter, Shift}
-use Rattle.ladder_tree.specs.declared.project.Rung.{Rung}
-use Rattle.ladder_tree.specs.declared.names.Names.{Names}
-use Rattle.ladder_lower.specs.declared.layout.Layout.{Layout}
-use Rattle.ladder_lower.specs.Apart.{Apart}
-use Rattle.ladder_lower.specs.Masters.{is_master, any_master}
+use Rattle.std.proofs.lemmas.List.Folds.{list_any-append}
+use Rattle.std.proofs.lemmas.Slice.Eq.{bytes_eq-Decides}
+use Rattle.std.specs.List.{list_any}
+use Rattle.std.specs.Prelude.{slice_index_or, filter}
+use Rattle.std.specs.Str.{bytes_eq}
 use Rattle.ladder_tree.specs.Leaves.{all_leaves}
 use Rattle.ladder_tree.specs.Names.{is_input, is_output, is_relay, bit_names, all_bits, firsts_from, firsts, names_of, memories, memories_in, has_kind, all_well_named}
+use Rattle.ladder_tree.specs.declared.element.Leaf as leaf
+use Rattle.ladder_tree.specs.declared.element.LeafKind.TheVariants.{Contacts, Coil, MasterRelay, Osr, Osf, Counter, Shift}
+use Rattle.ladder_tree.specs.declared.element.LeafKind.{LeafKind}
+use Rattle.ladder_tree.specs.declared.names.Names.{Names}
+use Rattle.ladder_tree.specs.declared.project.Rung.{Rung}
 use Rattle.ladder_meaning.specs.State.{place_of}
-use Rattle.ladder_lower.proofs.Stands.{held, IsNamed, AllNamed, IsListed, Listed}
+use Rattle.ladder_lower.specs.Apart.{Apart}
+use Rattle.ladder_lower.specs.Masters.{is_master, any_master}
+use Rattle.ladder_lower.specs.Wires.{layout_of}
+use Rattle.ladder_lower.specs.declared.layout.Layout.{Layout}
 use Rattle.ladder_lower.proofs.PlaceLemmas.{bytes_tells, bytes_same, held_get}
+use Rattle.ladder_lower.proofs.Stands.{held, IsNamed, AllNamed, IsListed, Listed}
 
 abbrev OfKind : Bool → List (List ℕ) → Type 0
 OfKind y [] = Unit {0}

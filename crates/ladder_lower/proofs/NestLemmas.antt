@@ -1,21 +1,21 @@
 -- The operations of each part nest by themselves.
 use Rattle.std.proofs.Common.{◌≡◌, ℕ, ◌+◌, Bool, true, false, List, [], ◌∷◌, ◌++◌, map, refl, sym, ap, ◌∙◌, append_assoc, append-nil}
-use Rattle.ladder_tree.specs.declared.element.CoilMode.{CoilMode}
+use Rattle.ladder_tree.specs.Induct.{Each, node_ind}
 use Rattle.ladder_tree.specs.declared.element.CoilMode.TheVariants as mode
-use Rattle.ladder_tree.specs.declared.element.LeafKind.{LeafKind}
+use Rattle.ladder_tree.specs.declared.element.CoilMode.{CoilMode}
 use Rattle.ladder_tree.specs.declared.element.LeafKind.TheVariants.{Contacts, Coil, Osr, Osf, Open, MasterRelay}
-use Rattle.ladder_lower.specs.declared.layout.Layout.{Layout}
+use Rattle.ladder_tree.specs.declared.element.LeafKind.{LeafKind}
 use Rattle.ladder_tree.specs.declared.project.Node.{Node}
 use Rattle.ladder_tree.specs.declared.project.Rung.{Rung}
-use Rattle.ladder_tree.specs.Induct.{Each, node_ind}
+use Rattle.int_code.specs.WellFormed.{nests}
 use Rattle.int_code.specs.declared.op.BitDest.TheVariants as dest
 use Rattle.int_code.specs.declared.op.BitSource.TheVariants as source
-use Rattle.int_code.specs.declared.op.IntOp.{IntOp}
 use Rattle.int_code.specs.declared.op.IntOp.TheVariants.{Cpy}
-use Rattle.ladder_lower.specs.Wires.{power, or_wire}
-use Rattle.int_code.specs.WellFormed.{nests}
+use Rattle.int_code.specs.declared.op.IntOp.{IntOp}
 use Rattle.ladder_lower.specs.ElementCode.{coil_code, contact_code, element_code}
 use Rattle.ladder_lower.specs.NodeCode.{Piece, series_code, ends, join, others_code, parallel_code, piece, piece_step, nodes_piece, rung_start_by, rungs_code, start_by, program_code}
+use Rattle.ladder_lower.specs.Wires.{power, or_wire}
+use Rattle.ladder_lower.specs.declared.layout.Layout.{Layout}
 use Rattle.ladder_lower.proofs.FoldLemmas.{fold-Leaf, fold-Series, fold-Parallel}
 
 -- behind it, the open ifs are those before it

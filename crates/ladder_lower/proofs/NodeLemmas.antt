@@ -1,29 +1,29 @@
 -- The operations of nodes.
-use Rattle.ladder_lower.proofs.Stands.{Stands, AllNamed, IsNamed}
 use Rattle.std.proofs.Common.{◌≡◌, ◌≢◌, ℕ, ◌+◌, ◌<◌, ◌≤◌, ◌||◌, Bool, true, false, cond, List, [], ◌∷◌, ◌++◌, map, refl, sym, ap, ◌∙◌, arith}
 use Rattle.std.proofs.Math.Bool.{or-false, or-true, or_assoc}
-use Rattle.ladder_tree.specs.declared.element.Leaf as leaf
-use Rattle.ladder_tree.specs.declared.project.Node.{Node}
-use Rattle.ladder_tree.specs.declared.project.Node.TheOpen.{Node-F}
 use Rattle.ladder_tree.specs.Induct.{Each, node_ind}
+use Rattle.ladder_tree.specs.Leaves.{leaves, leaves_in}
+use Rattle.ladder_tree.specs.declared.element.Leaf as leaf
+use Rattle.ladder_tree.specs.declared.project.Node.TheOpen.{Node-F}
+use Rattle.ladder_tree.specs.declared.project.Node.{Node}
+use Rattle.ladder_meaning.specs.Element.{Went}
+use Rattle.ladder_meaning.specs.Node.{Part, series, parallel, node_step, node, nodes}
+use Rattle.ladder_meaning.specs.State.{Now, seen}
+use Rattle.ladder_meaning.specs.declared.reading.Reading.{Reading}
+use Rattle.int_code.specs.Meaning.{Moment, all_run, run, step}
 use Rattle.int_code.specs.declared.op.BitDest.TheVariants as dest
 use Rattle.int_code.specs.declared.op.BitSource.TheVariants as source
-use Rattle.ladder_lower.proofs.FoldLemmas.{fold-Leaf, fold-Series, fold-Parallel}
-use Rattle.int_code.specs.declared.op.IntOp.{IntOp}
 use Rattle.int_code.specs.declared.op.IntOp.TheVariants.{Cpy}
-use Rattle.ladder_lower.proofs.LeafLemmas.{leaves-Leaf, leaves-Series, leaves-Parallel, named_front, named_back}
-use Rattle.int_code.specs.Meaning.{Moment, all_run, run, step}
-use Rattle.ladder_meaning.specs.State.{Now, seen}
-use Rattle.ladder_meaning.specs.Node.{Part, series, parallel, node_step, node, nodes}
-use Rattle.ladder_lower.specs.Wires.{power, wire, masters, outer_wires, wires, in_wire, or_wire}
+use Rattle.int_code.specs.declared.op.IntOp.{IntOp}
 use Rattle.ladder_lower.specs.NodeCode.{Piece, series_code, others_code, join, fork_code, parallel_code, piece_step, piece, nodes_piece}
-use Rattle.ladder_lower.proofs.WriteLemmas.{wire_write, same, other}
-use Rattle.ladder_lower.proofs.Lowers.{After, Lowers}
-use Rattle.ladder_lower.proofs.ElementLemmas.{element_asleep, element_awake}
+use Rattle.ladder_lower.specs.Wires.{power, wire, masters, outer_wires, wires, in_wire, or_wire}
 use Rattle.ladder_lower.specs.declared.layout.Layout.{Layout}
-use Rattle.ladder_meaning.specs.Element.{Went}
-use Rattle.ladder_meaning.specs.declared.reading.Reading.{Reading}
-use Rattle.ladder_tree.specs.Leaves.{leaves, leaves_in}
+use Rattle.ladder_lower.proofs.ElementLemmas.{element_asleep, element_awake}
+use Rattle.ladder_lower.proofs.FoldLemmas.{fold-Leaf, fold-Series, fold-Parallel}
+use Rattle.ladder_lower.proofs.LeafLemmas.{leaves-Leaf, leaves-Series, leaves-Parallel, named_front, named_back}
+use Rattle.ladder_lower.proofs.Lowers.{After, Lowers}
+use Rattle.ladder_lower.proofs.Stands.{Stands, AllNamed, IsNamed}
+use Rattle.ladder_lower.proofs.WriteLemmas.{wire_write, same, other}
 
 pub run-append : (r : Reading) (a b : List IntOp) (m : Moment) → run r (a ++ b) m ≡ run r b (run r a m)
 run-append r [] b m = refl

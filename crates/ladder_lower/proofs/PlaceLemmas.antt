@@ -1,18 +1,17 @@
--- Names of names are apart, and below the wires.
-use Rattle.ladder_lower.proofs.Stands.{held}
+-- Places of names are apart, and below their lists' lengths.
 use Rattle.std.proofs.Common.{◌≡◌, ◌≢◌, ℕ, zero, suc, ◌+◌, ◌<◌, ◌≤◌, ◌⊎◌, inl, inr, ◌||◌, Bool, true, false, cond, nat_eq, List, [], ◌∷◌, ◌++◌, length, get_or, map, refl, sym, ap, ◌∙◌, ⊎_elim, arith, Bor, take, add-one}
-use Rattle.std.proofs.lemmas.Bool.{cases_Bool}
 use Rattle.std.proofs.lemmas.Bool.Decides.{nat_tests, not_from_Decides}
-use Rattle.std.proofs.lemmas.Slice.Eq.{bytes_eq-Decides}
-use Rattle.std.specs.Prelude.{slice_index_or}
-use Rattle.std.specs.Prelude.{Some, None, nat_lt}
-use Rattle.std.specs.Option.{unwrap_or}
-use Rattle.std.specs.List.{list_any, position, position_or_len}
-use Rattle.std.proofs.lemmas.List.{length-map, take_more}
+use Rattle.std.proofs.lemmas.Bool.{cases_Bool}
 use Rattle.std.proofs.lemmas.List.Recursion.{is_position_or_len}
+use Rattle.std.proofs.lemmas.List.{length-map, take_more}
+use Rattle.std.proofs.lemmas.Slice.Eq.{bytes_eq-Decides}
+use Rattle.std.specs.List.{list_any, position, position_or_len}
+use Rattle.std.specs.Option.{unwrap_or}
+use Rattle.std.specs.Prelude.{slice_index_or, Some, None, nat_lt}
 use Rattle.std.specs.Str.{bytes_eq}
-use Rattle.ladder_lower.specs.Apart.{Apart}
 use Rattle.ladder_meaning.specs.State.{place_of}
+use Rattle.ladder_lower.specs.Apart.{Apart}
+use Rattle.ladder_lower.proofs.Stands.{held}
 
 -- the test on two names, with what it tells
 pub bytes_tells : (a b : List ℕ) → ((bytes_eq a b ≡ true) × (a ≡ b)) ⊎ ((bytes_eq a b ≡ false) × (a ≢ b))

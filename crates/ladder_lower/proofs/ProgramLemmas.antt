@@ -1,28 +1,27 @@
 -- What is known of a project whose names are its lists.
-use Rattle.ladder_lower.specs.Wires.{layout_of}
 use Rattle.std.proofs.Common.{◌≡◌, ◌+◌, ◌≤◌, Bool, true, false, cond, List, length, ap, arith}
-use Rattle.ladder_tree.specs.declared.names.Names.{Names}
-use Rattle.ladder_tree.specs.declared.project.Rung.{Rung}
 use Rattle.ladder_tree.specs.Leaves.{all_leaves, depth_of_all}
 use Rattle.ladder_tree.specs.Names.{names_of, all_well_named}
 use Rattle.ladder_tree.specs.Size.{size_of_all}
-use Rattle.int_code.specs.declared.op.IntProgram.{IntProgram}
+use Rattle.ladder_tree.specs.declared.names.Names.{Names}
+use Rattle.ladder_tree.specs.declared.project.Rung.{Rung}
 use Rattle.int_code.specs.Caps.{ops_cap}
 use Rattle.int_code.specs.WellFormed.{IsWellFormed, sizes_of}
-use Rattle.ladder_lower.specs.NodeCode.{program_code, memories_of}
+use Rattle.int_code.specs.declared.op.IntProgram.{IntProgram}
 use Rattle.ladder_lower.specs.Correct.{KeepsHistory}
-use Rattle.ladder_lower.specs.Nesting.{nesting_of_all}
-use Rattle.ladder_lower.specs.Wires.{Fits, wires}
 use Rattle.ladder_lower.specs.Masters.{any_master}
-use Rattle.ladder_lower.specs.declared.layout.Layout.{Layout}
-use Rattle.ladder_lower.proofs.Stands.{AllNamed}
+use Rattle.ladder_lower.specs.Nesting.{nesting_of_all}
+use Rattle.ladder_lower.specs.NodeCode.{program_code, memories_of}
 use Rattle.ladder_lower.specs.Outcome.{HasSizes, IsSmall, HasRoom}
+use Rattle.ladder_lower.specs.Wires.{layout_of, Fits, wires}
+use Rattle.ladder_lower.specs.declared.layout.Layout.{Layout}
 use Rattle.ladder_lower.proofs.CapLemmas.{program_short}
 use Rattle.ladder_lower.proofs.CountLemmas.{rungs_count_memories, rungs_nested, rungs_sized}
 use Rattle.ladder_lower.proofs.HistoryLemmas.{keeps_history}
 use Rattle.ladder_lower.proofs.NameLemmas.{EachApart, names_apart, names_named, names_listed, names_counted}
 use Rattle.ladder_lower.proofs.NestLemmas.{program_nests}
 use Rattle.ladder_lower.proofs.RangeLemmas.{program_in}
+use Rattle.ladder_lower.proofs.Stands.{AllNamed}
 
 -- a project that is lowered, with its names
 pub record Lowered (n : Names) (gs : List Rung) : Type 0 where

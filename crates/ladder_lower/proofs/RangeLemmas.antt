@@ -1,24 +1,24 @@
 -- The numbers of bits are in range.
 use Rattle.std.proofs.Common.{◌≡◌, ℕ, ◌+◌, ◌≤◌, Bool, true, false, cond, List, [], ◌∷◌, ◌++◌, length, map, refl, ap, arith}
-use Rattle.std.specs.List.{All, AllByRecursion}
 use Rattle.std.proofs.lemmas.List.Elements.{All-from_recursion}
-use Rattle.ladder_tree.specs.declared.element.CoilMode.{CoilMode}
-use Rattle.ladder_tree.specs.declared.element.CoilMode.TheVariants as mode
-use Rattle.ladder_tree.specs.declared.element.Leaf as leaf
-use Rattle.ladder_tree.specs.declared.element.LeafKind.{LeafKind}
-use Rattle.ladder_tree.specs.declared.element.LeafKind.TheVariants.{Contacts, Coil, Osr, Osf, Open, MasterRelay}
-use Rattle.ladder_lower.specs.declared.layout.Layout.{Layout}
-use Rattle.ladder_tree.specs.declared.project.Node.{Node}
-use Rattle.ladder_tree.specs.declared.project.Rung.{Rung}
+use Rattle.std.specs.List.{All, AllByRecursion}
 use Rattle.ladder_tree.specs.Induct.{Each, node_ind}
 use Rattle.ladder_tree.specs.Leaves.{leaves, leaves_in, leaves_step, all_leaves}
 use Rattle.ladder_tree.specs.Names.{is_input, is_output, memories}
-use Rattle.int_code.specs.declared.op.IntOp.{IntOp}
+use Rattle.ladder_tree.specs.declared.element.CoilMode.TheVariants as mode
+use Rattle.ladder_tree.specs.declared.element.CoilMode.{CoilMode}
+use Rattle.ladder_tree.specs.declared.element.Leaf as leaf
+use Rattle.ladder_tree.specs.declared.element.LeafKind.TheVariants.{Contacts, Coil, Osr, Osf, Open, MasterRelay}
+use Rattle.ladder_tree.specs.declared.element.LeafKind.{LeafKind}
+use Rattle.ladder_tree.specs.declared.project.Node.{Node}
+use Rattle.ladder_tree.specs.declared.project.Rung.{Rung}
 use Rattle.int_code.specs.WellFormed.{Sizes, IsDest, IsSource, IsInRange}
-use Rattle.ladder_lower.specs.Wires.{dest_by, dest_of, source_by, source_of, wire, wires, masters}
+use Rattle.int_code.specs.declared.op.IntOp.{IntOp}
 use Rattle.ladder_lower.specs.ElementCode.{coil_code, contact_code, element_code}
-use Rattle.ladder_lower.specs.NodeCode.{Piece, ends, join, others_code, parallel_code, piece, piece_step, nodes_piece, rung_start_by, rungs_code, start_by, program_code, memories_of}
 use Rattle.ladder_lower.specs.Nesting.{nesting_of_branches, nesting, nesting_in, nesting_step, nesting_of_all}
+use Rattle.ladder_lower.specs.NodeCode.{Piece, ends, join, others_code, parallel_code, piece, piece_step, nodes_piece, rung_start_by, rungs_code, start_by, program_code, memories_of}
+use Rattle.ladder_lower.specs.Wires.{dest_by, dest_of, source_by, source_of, wire, wires, masters}
+use Rattle.ladder_lower.specs.declared.layout.Layout.{Layout}
 use Rattle.ladder_lower.proofs.FoldLemmas.{fold-Leaf, fold-Series, fold-Parallel}
 use Rattle.ladder_lower.proofs.LeafLemmas.{named_front, named_back}
 use Rattle.ladder_lower.proofs.PlaceLemmas.{place_below}

@@ -1,17 +1,17 @@
 -- When numbered bits show a ladder's state within a cycle, by names, and which names have places.
 use Rattle.std.proofs.Common.{◌≡◌, ℕ, ◌<◌, Bool, true, false, cond, List, [], ◌∷◌, length}
-use Rattle.std.specs.Prelude.{slice_index_or}
 use Rattle.std.specs.List.{list_any}
+use Rattle.std.specs.Prelude.{slice_index_or}
 use Rattle.std.specs.Str.{bytes_eq}
-use Rattle.ladder_tree.specs.declared.element.Leaf as leaf
-use Rattle.ladder_tree.specs.declared.element.LeafKind.{LeafKind}
-use Rattle.ladder_tree.specs.declared.element.LeafKind.TheVariants.{Contacts, Coil, MasterRelay}
-use Rattle.ladder_lower.specs.declared.layout.Layout.{Layout}
-use Rattle.ladder_tree.specs.declared.names.Names.{Names}
 use Rattle.ladder_tree.specs.Names.{is_input, is_output}
+use Rattle.ladder_tree.specs.declared.element.Leaf as leaf
+use Rattle.ladder_tree.specs.declared.element.LeafKind.TheVariants.{Contacts, Coil, MasterRelay}
+use Rattle.ladder_tree.specs.declared.element.LeafKind.{LeafKind}
+use Rattle.ladder_tree.specs.declared.names.Names.{Names}
 use Rattle.ladder_meaning.specs.State.{Now, place_of}
 use Rattle.int_code.specs.Meaning.{Bits}
 use Rattle.ladder_lower.specs.Wires.{memory_bit, master}
+use Rattle.ladder_lower.specs.declared.layout.Layout.{Layout}
 
 abbrev pub held : List (List ℕ) → List ℕ → Bool
 held names name = list_any (λ x. bytes_eq x name) names

@@ -1,15 +1,15 @@
 -- What a write to one bit leaves.
-use Rattle.ladder_lower.proofs.Stands.{Stands, IsHeld}
 use Rattle.std.proofs.Common.{◌≡◌, ◌≢◌, ℕ, ◌+◌, ◌<◌, Bool, true, false, cond, nat_eq, List, length, refl, sym, ap, ◌∙◌, arith}
 use Rattle.std.proofs.lemmas.Bool.Decides.{nat_tests}
 use Rattle.std.specs.Str.{bytes_eq}
-use Rattle.int_code.specs.declared.op.BitDest.TheVariants as dest
-use Rattle.int_code.specs.Meaning.{Bits, with}
-use Rattle.ladder_meaning.specs.State.{Now, with_bit, with_memory, with_master, place_of}
-use Rattle.ladder_lower.specs.Wires.{dest_by, dest_of, memory_bit, wire, master}
-use Rattle.ladder_lower.proofs.PlaceLemmas.{place_apart, place_below, bytes_tells}
 use Rattle.ladder_tree.specs.Names.{is_output}
+use Rattle.ladder_meaning.specs.State.{Now, with_bit, with_memory, with_master, place_of}
+use Rattle.int_code.specs.Meaning.{Bits, with}
+use Rattle.int_code.specs.declared.op.BitDest.TheVariants as dest
+use Rattle.ladder_lower.specs.Wires.{dest_by, dest_of, memory_bit, wire, master}
 use Rattle.ladder_lower.specs.declared.layout.Layout.{Layout}
+use Rattle.ladder_lower.proofs.PlaceLemmas.{place_apart, place_below, bytes_tells}
+use Rattle.ladder_lower.proofs.Stands.{Stands, IsHeld}
 
 pub other : (i j : ℕ) (v x : Bool) → i ≢ j → cond (nat_eq i j) v x ≡ x
 other i j v x ne = grind (arith, nat_tests)

@@ -120,7 +120,7 @@ fn emit_master(ops: &mut Ops, layout: &Layout<'_>) -> Result<(), AllocError>
     ops.push(IntOp::Fi)
 }
 
-/// An element behind `memory` memories. Answers how many there are behind it.
+/// An element behind `memory` memories. Answers how many there are behind it. Elements that do nothing yet have no operation.
 pub fn emit_element(
     ops: &mut Ops,
     layout: &Layout<'_>,
