@@ -101,12 +101,12 @@ writable gs cycle program named timed formed sizes room = record {
     input_count = sizes.inputs;
     output_count = sizes.outputs;
     bit_count = let kept = sizes.kept in let within = formed.kept in omega arith;
+    few_bits = room.bits;
     well_formed = formed;
   };
   inputs = listed_within is_input (all_leaves gs) named;
   outputs = listed_within is_output (all_leaves gs) named;
   relays = listed_within is_relay (all_leaves gs) named;
   timed = timed;
-  bits = room.bits;
   few = room.ops;
 }
