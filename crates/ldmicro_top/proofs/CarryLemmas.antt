@@ -1,5 +1,5 @@
 -- From each step's promise to the whole one: the text of a lowered project carries it.
-use Rattle.std.proofs.Common.{◌≡◌, ℕ, ◌≤◌, List, [], ◌∷◌, length, map, refl}
+use Rattle.std.proofs.Common.{ℕ, ◌≤◌, List, [], ◌∷◌, length, refl}
 use Rattle.ld_base.specs.Lines.{lines}
 use Rattle.ladder_tree.specs.declared.names.Names.{Names}
 use Rattle.ladder_tree.specs.declared.project.Project.{Project}
@@ -8,12 +8,13 @@ use Rattle.ladder_meaning.specs.declared.reading.Reading.{Reading}
 use Rattle.ladder_meaning.specs.Cycle.{State, start}
 use Rattle.int_code.specs.declared.op.IntOp.{IntOp}
 use Rattle.int_code.specs.declared.op.IntProgram.{IntProgram}
-use Rattle.int_code.specs.Meaning.{Bits, Moment}
+use Rattle.int_code.specs.Meaning.{Bits}
 use Rattle.int_code.specs.Meaning as int
 use Rattle.int_code.proofs.CountLemmas.{cycle_count}
 use Rattle.ladder_lower.specs.Correct.{Shows, ShowsAll, KeepsHistory}
 use Rattle.interp_code.specs.Program.{IsProgram, read_as}
-use Rattle.ldmicro_top.specs.Carries.{ShowsWithin, EachShows, Carries}
+use Rattle.interp_code.specs.Refused.{most_bytes}
+use Rattle.ldmicro_top.specs.Carries.{EachShows, Carries}
 
 -- a cycle executes at most as many operations as there are
 each_shows : (n : Names) (ops : List IntOp) (ss : List State) (t : Bits) (rs : List Reading) → ShowsAll n ss (int.history ops t rs) → EachShows n (length ops) ss (int.history ops t rs)
@@ -26,10 +27,11 @@ each_shows n ops (s ∷ ss) t [] h = absurd h
 start_shown : (n : Names) → Shows n start int.start
 start_shown n = record { outputs = λ k lt. refl; relays = λ k lt. refl; memories = λ k lt. refl }
 
-pub carried : (p : Project) (program : IntProgram) (code : List ℕ) → IsProgram (lines code) (read_as p.cycle (names_of p.rungs) program) → KeepsHistory (names_of p.rungs) p.rungs program.ops → Carries p code (length program.ops)
-carried p program code read keeps = record {
+pub carried : (p : Project) (program : IntProgram) (code : List ℕ) → IsProgram (lines code) (read_as p.cycle (names_of p.rungs) program) → length code ≤ most_bytes → KeepsHistory (names_of p.rungs) p.rungs program.ops → Carries p code (length program.ops)
+carried p program code read within keeps = record {
   program = read_as p.cycle (names_of p.rungs) program;
   read = read;
+  within = within;
   cycle = refl;
   inputs = refl;
   outputs = refl;

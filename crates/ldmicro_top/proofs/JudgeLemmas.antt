@@ -1,5 +1,5 @@
 -- What was read of a source, which may be cut behind its limit, answers for the source.
-use Rattle.std.proofs.Common.{◌≡◌, ℕ, ◌≤◌, Bool, List, Option, Some, nat_lt, length, refl, sym, ap, ◌∙◌, subst, arith}
+use Rattle.std.proofs.Common.{◌≡◌, ℕ, List, Option, Some, nat_lt, length, refl, sym, ap, ◌∙◌, subst}
 use Rattle.ld_base.specs.Bytes.{Held}
 use Rattle.ld_base.specs.Lines.{lines}
 use Rattle.ld_base.specs.Refusal.{IsRefusedAt}

@@ -2,3 +2,4 @@ pub mod RanLemmas
 pub mod CarryLemmas
 pub mod NamedLemmas
 pub mod JudgeLemmas
+pub mod LengthLemmas

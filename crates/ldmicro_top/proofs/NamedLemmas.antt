@@ -1,10 +1,11 @@
 -- The names of a project have a text: each is a name, and none stands twice in a list.
-use Rattle.std.proofs.Common.{◌≡◌, ℕ, ◌≤◌, Bool, true, false, not, ◌&&◌, cond, nat_le, List, [], ◌∷◌, ◌++◌, length, filter, refl, sym, ap, ◌∙◌, arith, append_assoc, append-nil}
+use Rattle.std.proofs.Common.{◌≡◌, ℕ, ◌≤◌, Bool, true, false, not, ◌&&◌, cond, nat_le, List, [], ◌∷◌, ◌++◌, length, filter, refl, sym, ap, ◌∙◌, arith, subst, append_assoc, append-nil}
 use Rattle.std.proofs.lemmas.Bool.Decides.{nat_tests}
 use Rattle.std.specs.List.{list_any, list_all}
 use Rattle.std.specs.Str.{bytes_eq}
 use Rattle.ladder_tree.specs.declared.element.Leaf as leaf
 use Rattle.ladder_tree.specs.Names.{firsts, firsts_from, all_bits, bit_names, is_name, is_name_within, is_name_byte, is_digit, is_well_named, has_kind, all_well_named, appearances, is_input, is_output, is_relay, names_of}
+use Rattle.ladder_tree.specs.declared.names.Names.{Names}
 use Rattle.ladder_tree.specs.declared.project.Rung.{Rung}
 use Rattle.ladder_tree.specs.Leaves.{all_leaves}
 use Rattle.int_code.specs.declared.op.IntProgram.{IntProgram}
@@ -110,3 +111,7 @@ writable gs cycle program named timed formed sizes room = record {
   timed = timed;
   few = room.ops;
 }
+
+-- the same of the names that were listed
+pub writable_names : (gs : List Rung) (n : Names) (cycle : ℕ) (program : IntProgram) → n ≡ names_of gs → all_well_named (all_leaves gs) ≡ true → cycle ≤ 999999999 → IsWellFormed program → HasSizes n program → HasRoom program → IsWritable cycle n program
+writable_names gs n cycle program e named timed formed sizes room = subst (λ (m : Names). IsWritable cycle m program) (sym e) (writable gs cycle program named timed formed (subst (λ (m : Names). HasSizes m program) e sizes) room)

@@ -1,11 +1,11 @@
 -- From the steps to a whole run.
-use Rattle.std.proofs.Common.{◌≡◌, ◌≢◌, ◌⊎◌, inl, inr, ℕ, ◌≤◌, Bool, true, false, List, [], ◌∷◌, ◌++◌, refl, sym, ap, ◌∙◌, subst, ⊎_elim, arith, append-nil, le_refl, cond, Some}
+use Rattle.std.proofs.Common.{◌≡◌, ◌≢◌, ◌⊎◌, inl, inr, ℕ, ◌≤◌, Bool, true, false, List, [], ◌∷◌, ◌++◌, refl, sym, ap, ◌∙◌, subst, ⊎_elim, append-nil, cond, Some}
 use Rattle.std.specs.Str.{bytes_eq}
-use Rattle.ld_base.specs.Counts.{Counts, Rose}
+use Rattle.ld_base.specs.Counts.{Rose}
 use Rattle.ld_base.specs.Bytes.{Held, SameHeld, HoldsThen}
 use Rattle.ldmicro_top.specs.declared.status.Status.{Status}
 use Rattle.ldmicro_top.specs.declared.status.Status.TheVariants.{Ok, Usage, Refused, ReadFault, WriteFault, NoMemory}
-use Rattle.ldmicro_top.specs.Command.{Command, Compile, Other}
+use Rattle.ldmicro_top.specs.Command.{Command, Compile}
 use Rattle.ldmicro_top.specs.Expected.{Expected, SourceAnswers, is_fault, is_cut}
 use Rattle.ldmicro_top.specs.StatusLine.{line_of}
 use Rattle.ldmicro_top.specs.Ran.{World, Ran, IsCompiled, CompilesTo, DestHolds, Prints, IsFrontOf, IsCommand, IsComplete}

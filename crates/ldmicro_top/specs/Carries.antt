@@ -12,6 +12,7 @@ use Rattle.int_code.specs.Meaning as int
 use Rattle.ladder_lower.specs.Correct.{Shows}
 use Rattle.interp_code.specs.declared.program.InterpProgram.{InterpProgram}
 use Rattle.interp_code.specs.Program.{IsProgram}
+use Rattle.interp_code.specs.Refused.{most_bytes}
 
 -- at the end of a cycle the bits show the ladder's state, and at most so many operations were executed
 pub record ShowsWithin (n : Names) (most : ℕ) (s : State) (m : Moment) : Type 0 where
@@ -30,6 +31,7 @@ EachShows n most (s ∷ ss) [] = ⊥
 pub record Carries (p : Project) (code : List ℕ) (most : ℕ) : Type 0 where
   pub program : InterpProgram
   pub read : IsProgram (lines code) program
+  pub within : length code ≤ most_bytes
   pub cycle : program.cycle ≡ p.cycle
   pub inputs : program.names.inputs ≡ (names_of p.rungs).inputs
   pub outputs : program.names.outputs ≡ (names_of p.rungs).outputs

@@ -1,5 +1,5 @@
 -- The exit status and the line of each way that a run ends.
-use Rattle.std.specs.Prelude.{ℕ, List, [], ◌∷◌, ◌++◌, codes}
+use Rattle.std.specs.Prelude.{ℕ, List, [], ◌++◌, codes}
 use Rattle.std.specs.Fmt.{decimal}
 use Rattle.ld_text.specs.Fault.{number_of, name_of}
 use Rattle.ld_text.specs.declared.fault.ProjectFault.{ProjectFault}

@@ -1,15 +1,14 @@
 -- What the steps of a run leave.
-use Rattle.std.specs.Prelude.{◌≡◌, ◌≢◌, ◌⊎◌, ℕ, ◌≤◌, Bool, true, false, List, ◌++◌, Some}
+use Rattle.std.specs.Prelude.{◌≡◌, ◌≢◌, ◌⊎◌, ℕ, ◌≤◌, Bool, true, false, List, ◌++◌}
 use Rattle.ld_base.specs.Counts.{Counts, Rose}
 use Rattle.ld_base.specs.Bytes.{Held, SameHeld, HoldsThen}
 use Rattle.ld_base.specs.declared.device.FileFault.{FileFault}
 use Rattle.ld_base.specs.declared.device.FileFault.TheVariants as file
-use Rattle.ladder_tree.specs.declared.project.Project.{Project}
 use Rattle.ldmicro_top.specs.declared.status.Status.{Status}
 use Rattle.ldmicro_top.specs.declared.status.Status.TheVariants.{Ok, ReadFault, WriteFault, NoMemory}
 use Rattle.ldmicro_top.specs.Command.{Compile}
-use Rattle.ldmicro_top.specs.Expected.{Expected, Answers, is_fault}
-use Rattle.ldmicro_top.specs.Ran.{IsFrontOf, IsCompiled}
+use Rattle.ldmicro_top.specs.Expected.{Expected, is_fault}
+use Rattle.ldmicro_top.specs.Ran.{IsFrontOf}
 
 -- the line of the wanted status was written, or a front of it and the status says why
 pub record Told (shown : Bool) (faults faults' : ℕ) (written written' line : List ℕ) (wanted status : Status) : Type 0 where

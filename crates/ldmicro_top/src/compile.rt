@@ -1,6 +1,6 @@
 //! From a project text to the text that is written and its report.
 
-ghost use Rattle.std.specs.Prelude.{◌≡◌, IfOk, IfErr};
+ghost use Rattle.std.specs.Prelude.{IfOk, IfErr};
 ghost use Rattle.std.specs.String.{string_bytes};
 ghost use Rattle.ld_text.specs.Text.{IsCause};
 ghost use Rattle.ldmicro_top.specs.Ran.{IsCompiledText};

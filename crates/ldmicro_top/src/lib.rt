@@ -2,6 +2,7 @@
 #![tactic(auto)]
 
 pub mod compile;
+pub mod laws;
 pub mod report;
 pub mod run;
 pub mod status;

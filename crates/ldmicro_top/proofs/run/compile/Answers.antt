@@ -1,4 +1,4 @@
-use Rattle.std.proofs.Common.{◌≡◌, rules, arith, refl, List, ℕ, subst, ap, sym, ◌∙◌}
+use Rattle.std.proofs.Common.{arith, List, ℕ, subst}
 use Rattle.std.specs.String.{string_bytes}
 use Rattle.ldmicro_top.specs.declared.status.Status.TheVariants.{Ok}
 use Rattle.ldmicro_top.specs.Steps.{Told}

@@ -1,7 +1,6 @@
-use Rattle.std.proofs.Common.{◌≡◌, List, ℕ, inr, refl, ap, sym, ◌∙◌, subst}
+use Rattle.std.proofs.Common.{inr, refl, ◌∙◌, subst}
 use Rattle.ld_text.specs.Text.{IsCause}
 use Rattle.ld_text.specs.declared.fault.TextError.{TextError}
-use Rattle.ldmicro_top.specs.Ran.{IsCompiledText}
 use Rattle.ldmicro_top.proofs.JudgeLemmas.{compiled_source, refused_source}
 use Rattle.ldmicro_top.proofs.run.judge.Goals as goal
 

@@ -1,4 +1,4 @@
-use Rattle.std.proofs.Common.{◌≡◌, map, refl, sym, le_refl, subst}
+use Rattle.std.proofs.Common.{refl, sym, le_refl, subst}
 use Rattle.ldmicro_top.specs.declared.status.Status.TheVariants.{Usage}
 use Rattle.ldmicro_top.specs.Command.{Command}
 use Rattle.ldmicro_top.specs.Expected.{Expected}
