@@ -1,0 +1,2 @@
+pub mod Insn
+pub mod Words
