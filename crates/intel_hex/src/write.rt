@@ -1,0 +1,168 @@
+//! Writing an image.
+
+ghost use Rattle.std.specs.Prelude.{◌≡◌, ◌+◌, ◌*◌, ◌≤◌, ◌<◌, ◌%◌, ◌^◌, ◌++◌, ◌∷◌, [], length, sum, IfOk, OnOk, Some};
+ghost use Rattle.intel_hex.specs.Areas.{is_pic, flash_of};
+ghost use Rattle.intel_hex.specs.Record.{line_of, closing, bytes_of};
+ghost use Rattle.intel_hex.specs.Text.{word_bytes, data_lines, record_count, upper_line, config_line, hex_text};
+
+use crate::image::Image;
+use chip_tables::Target;
+use ld_base::list::List;
+use std::alloc::{AllocError, Global};
+
+/// Bytes of a text.
+pub type Text = List<u8>;
+
+/// How many words stand in one record.
+const WORDS_IN_RECORD: usize = 8;
+
+/// The address of a PIC's configuration word.
+const CONFIG_ADDRESS: u16 = 0x400e;
+
+const DATA_TYPE: u8 = 0;
+
+const END_TYPE: u8 = 1;
+
+const UPPER_TYPE: u8 = 4;
+
+/// The Intel HEX file of an image, in upper case: on a PIC the record that sets the upper half of
+/// the addresses, then all words, then on a PIC the configuration word if there is one, and the
+/// end record. Each line ends with a line feed.
+pub fn write_hex(alloc: Global, image: &Image) -> Result<Text, AllocError>
+    requires { length image.now.words ≤ flash_of image.now.target }
+    ensures { IfOk result (λ t. t ≡ hex_text image.now) }
+{
+    let is_pic = is_pic(image.target);
+    let mut text = Vec::new(alloc);
+    push_upper(alloc, &mut text, is_pic)?;
+    push_words(alloc, &mut text, image.words.as_slice())?;
+    push_config(alloc, &mut text, is_pic, image.config)?;
+    push_line(alloc, &mut text, END_TYPE, 0, &[])?;
+    Ok(List::from_vec(text))
+}
+
+fn is_pic(target: Target) -> bool
+    ensures { result ≡ is_pic target }
+{
+    match target {
+        Target::F628 | Target::F877 => true,
+        Target::Mega16 | Target::Interp | Target::AnsiC => false,
+    }
+}
+
+fn push_upper(alloc: Global, text: &mut Vec<u8>, is_pic: bool) -> Result<(), AllocError>
+    ensures { OnOk result (text.new.items ≡ text.old.items ++ upper_line is_pic) }
+{
+    if is_pic {
+        push_line(alloc, text, UPPER_TYPE, 0, &[0, 0])?;
+    }
+    Ok(())
+}
+
+fn push_config(
+    alloc: Global,
+    text: &mut Vec<u8>,
+    is_pic: bool,
+    config: Option<u16>,
+) -> Result<(), AllocError>
+    ensures { OnOk result (text.new.items ≡ text.old.items ++ config_line is_pic config) }
+{
+    match config {
+        Some(word) if is_pic => push_data(alloc, text, CONFIG_ADDRESS, &[word]),
+        _ => Ok(()),
+    }
+}
+
+/// Appends the records of words from address 0 on.
+fn push_words(alloc: Global, text: &mut Vec<u8>, words: &[u16]) -> Result<(), AllocError>
+    requires { length words.now ≤ 8192 }
+    ensures { OnOk result (text.new.items ≡ text.old.items ++ data_lines (record_count (length words.now)) 0 words.now) }
+{
+    let mut rest = words;
+    for place in 0..words.len().div_ceil(WORDS_IN_RECORD) {
+        let (front, behind) = rest.split_at(WORDS_IN_RECORD.min(rest.len()));
+        push_data(alloc, text, (16 * place) as u16, front)?;
+        rest = behind;
+    }
+    Ok(())
+}
+
+/// Appends the record of words at an address.
+fn push_data(
+    alloc: Global,
+    text: &mut Vec<u8>,
+    address: u16,
+    words: &[u16],
+) -> Result<(), AllocError>
+    requires { length words.now ≤ 8 }
+    ensures { OnOk result (text.new.items ≡ text.old.items ++ line_of 0 address (word_bytes words.now)) }
+{
+    let mut bytes = Vec::new(alloc);
+    for word in words {
+        bytes.push((word % 256) as u8)?;
+        bytes.push((word / 256) as u8)?;
+    }
+    push_line(alloc, text, DATA_TYPE, address, bytes.as_slice())
+}
+
+/// Appends the line of a record.
+fn push_line(
+    alloc: Global,
+    text: &mut Vec<u8>,
+    kind: u8,
+    address: u16,
+    payload: &[u8],
+) -> Result<(), AllocError>
+    requires { length payload.now < 256 }
+    ensures { OnOk result (text.new.items ≡ text.old.items ++ line_of kind address payload.now) }
+{
+    let [high, low] = address.to_be_bytes();
+    let mut bytes = vec![in alloc; payload.len() as u8, high, low, kind]?;
+    bytes.extend_from_slice(payload)?;
+    let closing = 0u8.wrapping_sub(sum_of(bytes.as_slice()));
+    bytes.push(closing)?;
+    let pairs = hex::encode_upper(alloc, bytes.as_slice())?;
+    text.push(b':')?;
+    text.extend_from_slice(pairs.as_bytes())?;
+    text.push(b'\n')?;
+    Ok(())
+}
+
+/// The sum of the bytes modulo 256.
+fn sum_of(bytes: &[u8]) -> u8
+    ensures { result ≡ sum bytes.now % 256 }
+{
+    let mut sum = 0u8;
+    for byte in bytes {
+        sum = sum.wrapping_add(*byte);
+    }
+    sum
+}
+
+#[cfg(test)]
+mod tests {
+    use super::*;
+    use std::test::Fail;
+
+    #[test]
+    fn writes_the_records_of_an_image(rt: HostRuntime) -> Result<(), Fail> {
+        let mega16 = Image {
+            target: Target::Mega16,
+            words: List::from_vec(vec![in rt.alloc(); 0xe70fu16]?),
+            config: None,
+        };
+        let text = write_hex(rt.alloc(), &mega16)?;
+        let want = b":020000000FE708\n:00000001FF\n";
+        assert_eq!(rt; text.as_slice(), want.as_slice());
+        let f628 = Image {
+            target: Target::F628,
+            words: List::from_vec(vec![in rt.alloc(); 0u16; 9]?),
+            config: Some(0x3f62),
+        };
+        let text = write_hex(rt.alloc(), &f628)?;
+        let want =
+            b":020000040000FA\n:1000000000000000000000000000000000000000F0\n:020010000000EE\n:02400E00623F0F\n:00000001FF\n";
+        assert_eq!(rt; text.as_slice(), want.as_slice());
+        Ok(())
+    }
+}
