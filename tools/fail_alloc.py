@@ -1,46 +1,50 @@
 #!/usr/bin/env python3
 """Lets each allocation of a compile fail in turn, and checks what is left.
 
-    python3 tools/fail_alloc.py [FIRST [LAST]]
+    python3 tools/fail_alloc.py [SOURCE ..]
 
-Each run compiles examples/copy.ld with the unproved build of `rt try`, whose N-th allocation fails. It has to end with
-status 0 and the right code, or with 5 (want of memory), and then the destination holds what it held, or a front of the
-right code, and nothing or a front of the report was printed. It stops at the first N at which nothing failed.
+Each run is one of the built program (./ldmicro builds it), with tools/fail_alloc.c loaded in front of the C library. It
+has to end with status 0, the right code and its report, or with 5 (want of memory); then the destination holds what it
+held, or a front of the right code, and nothing or a front of the report was printed.
 """
+import os
 import pathlib
-import re
 import subprocess
 import sys
 import tempfile
 
 TOP = pathlib.Path(__file__).resolve().parent.parent
+PROGRAM = TOP / "crates/ldmicro/out/ldmicro"
 
 
-def run(number, dest):
+def run(shim, number, source, dest):
     dest.write_bytes(b"old")
-    words = ["rt", "try", "--fail-alloc", str(number), "--", "/c", str(TOP / "examples/copy.ld"), str(dest)]
-    said = subprocess.run(words, cwd=TOP / "crates/ldmicro", capture_output=True, text=True)
-    status = re.search(r"run=ended status=(\d+)", said.stdout + said.stderr)
-    return (int(status.group(1)) if status else None), dest.read_bytes()
+    outside = dict(os.environ, LD_PRELOAD=str(shim), FAIL_ALLOC=str(number))
+    done = subprocess.run([str(PROGRAM), "/c", str(source), str(dest)], env=outside, capture_output=True)
+    return done.returncode, dest.read_bytes(), done.stdout
+
+
+def check(shim, source, dest):
+    status, code, report = run(shim, 0, source, dest)
+    assert status == 0, f"{source} does not compile with ample memory"
+    for number in range(1, 10**6):
+        status, held, printed = run(shim, number, source, dest)
+        if (status, held, printed) == (0, code, report):
+            print(f"{source.name}: each of {number - 1} allocations failed in turn, and every run ended well")
+            return True
+        if status != 5 or not (held == b"old" or code.startswith(held)) or not report.startswith(printed):
+            print(f"{source.name}: allocation {number}: status {status}, dest {held!r}, printed {printed!r}")
+            return False
+    return False
 
 
 def main():
-    first = int(sys.argv[1]) if len(sys.argv) > 1 else 1
-    last = int(sys.argv[2]) if len(sys.argv) > 2 else 10**6
+    sources = [pathlib.Path(word) for word in sys.argv[1:]] or sorted((TOP / "examples").glob("*.ld"))
     with tempfile.TemporaryDirectory() as folder:
-        dest = pathlib.Path(folder, "copy.int")
-        status, whole = run(10**9, dest)
-        assert status == 0, "the compile fails with ample memory"
-        for number in range(first, last + 1):
-            status, held = run(number, dest)
-            if status == 0 and held == whole:
-                print(f"allocation {number}: none failed any more; {number - first} failed, and all ended well")
-                return 0
-            if status != 5 or not (held == b"old" or whole.startswith(held)):
-                print(f"allocation {number}: status {status}, dest {held!r}")
-                return 1
-            print(f"allocation {number}: status 5, dest {'as it was' if held == b'old' else len(held)}", flush=True)
-    return 0
+        shim = pathlib.Path(folder, "fail_alloc.so")
+        subprocess.run(["cc", "-shared", "-fPIC", "-o", str(shim), str(TOP / "tools/fail_alloc.c"), "-ldl"], check=True)
+        fine = [check(shim, source, pathlib.Path(folder, "out.int")) for source in sources]
+    return 0 if all(fine) else 1
 
 
 if __name__ == "__main__":
