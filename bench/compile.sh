@@ -1,5 +1,5 @@
 #!/usr/bin/env bash
-# Times `./ldmicro /c` on projects of 1,000, 2,000 and 4,000 lines and on one of 64 KiB, and prints time and peak memory.
+# Times `./ldmicro /c` on projects of 1,000, 2,000 and 4,000 elements, on texts at the limit of 8 MiB and on texts that are refused, and prints time and peak memory.
 # A benchmark, not a test: it ends with 0 whatever it finds.
 set -u
 top=$(cd "$(dirname "$0")/.." && pwd)
@@ -10,19 +10,17 @@ python3 - "$top/crates/ldmicro/out/ldmicro" "$folder" <<'P'
 import os, resource, subprocess, sys, time
 program, folder = sys.argv[1:]
 header = "LDmicro0.1\nMICRO=Interpretable Byte Code\nCYCLE=10000\nCRYSTAL=4000000\nBAUD=2400\n\nIO LIST\nEND\n\nPROGRAM\n"
-def project(lines):
-    text, n, used = [header], 0, 10
-    while used + 4 <= lines:
-        text.append(f"RUNG\nCONTACTS X{n % 50} 0\nCOIL Y{n % 50} 0 0 0\nEND\n")
-        n, used = n + 1, used + 4
+def project(elements):
+    """Rungs of eight elements: seven contacts and a coil."""
+    text = [header]
+    for n in range(elements // 8):
+        contacts = "".join(f"CONTACTS X{(n + k) % 50} {k % 2}\n" for k in range(7))
+        text.append(f"RUNG\n{contacts}COIL R{n} 0 0 0\nEND\n")
     return "".join(text)
-def distinct(limit):
-    text, n = header, 0
-    while True:
-        rung = f"RUNG\nCONTACTS X{n} 0\nCOIL R{n} 0 0 0\nEND\n"
-        if len(text) + len(rung) > limit:
-            return text
-        text, n = text + rung, n + 1
+def filled(line, size):
+    """The header's first line, and lines up to the size; they may stand above PROGRAM."""
+    top = "LDmicro0.1\nMICRO=Interpretable\n"
+    return top + line * ((size - len(top) - 8) // len(line)) + "PROGRAM\n"
 def run(name, text):
     source, dest = os.path.join(folder, name + ".ld"), os.path.join(folder, name + ".int")
     open(source, "w").write(text)
@@ -38,7 +36,11 @@ def run(name, text):
     _, _, usage = os.wait4(pid, 0)
     print(f"{name:24} {len(text):7} bytes  status {done.returncode}  {best * 1000:8.2f} ms  {usage.ru_maxrss / 1024:6.1f} MiB")
     return best
-times = [run(f"{n} lines", project(n)) for n in (1000, 2000, 4000)]
-print(f"twice the text takes {times[1] / times[0]:.2f} and {times[2] / times[1]:.2f} times the time")
-run("64 KiB, all names new", distinct(65536))
+times = [run(f"{n} elements", project(n)) for n in (1000, 2000, 4000)]
+print(f"twice the elements take {times[1] / times[0]:.2f} and {times[2] / times[1]:.2f} times the time")
+run("4,000 comments", header + "".join("RUNG\n" + f"COMMENT {'x' * 500}\n" * 8 + "END\n" for _ in range(500)))
+run("8 MiB of header lines", filled("COMPILED=" + "x" * 60 + "\n", 8388608))
+run("8 MiB of blank lines", filled("\n", 8388608))
+run("9 MiB of one line", "LDmicro0.1\n" + "x" * 9437184)
+run("10,000 openings", header + "RUNG\n" + "SERIES\n" * 10000)
 P

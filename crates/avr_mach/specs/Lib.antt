@@ -1,2 +1,9 @@
+pub mod Arithmetic
+pub mod Control
 pub mod Insn
+pub mod Memory
+pub mod Reset
+pub mod State
+pub mod Step
+pub mod Transfer
 pub mod Words

@@ -1,6 +1,16 @@
-//! The instructions of an ATmega16, as far as this project knows them.
+//! An ATmega16 as far as this project's programs need it: its instructions, its state and its step.
 #![tactic(auto)]
 
+mod arithmetic;
+mod control;
 mod insn;
+mod memory;
+mod state;
+mod step;
+mod transfer;
 
 pub use insn::{AvrInsn, decode, encode, size_of};
+pub use state::{Acted, AvrState, Flow};
+
+#[cfg(test)]
+mod tests;

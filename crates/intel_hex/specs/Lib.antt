@@ -1,3 +1,9 @@
 pub mod Areas
+pub mod Given
+pub mod Image
+pub mod Kept
+pub mod Loaded
 pub mod Record
+pub mod Said
 pub mod Text
+pub mod Verdict

@@ -6,6 +6,7 @@ ghost use Rattle.intel_hex.specs.Record.{line_of, closing, bytes_of};
 ghost use Rattle.intel_hex.specs.Text.{word_bytes, data_lines, record_count, upper_line, config_line, hex_text};
 
 use crate::image::Image;
+use crate::record::{DATA_TYPE, END_TYPE, UPPER_TYPE, sum_of};
 use chip_tables::Target;
 use ld_base::list::List;
 use std::alloc::{AllocError, Global};
@@ -18,12 +19,6 @@ const WORDS_IN_RECORD: usize = 8;
 
 /// The address of a PIC's configuration word.
 const CONFIG_ADDRESS: u16 = 0x400e;
-
-const DATA_TYPE: u8 = 0;
-
-const END_TYPE: u8 = 1;
-
-const UPPER_TYPE: u8 = 4;
 
 /// The Intel HEX file of an image, in upper case: on a PIC the record that sets the upper half of
 /// the addresses, then all words, then on a PIC the configuration word if there is one, and the
@@ -41,7 +36,7 @@ pub fn write_hex(alloc: Global, image: &Image) -> Result<Text, AllocError>
     Ok(List::from_vec(text))
 }
 
-fn is_pic(target: Target) -> bool
+pub fn is_pic(target: Target) -> bool
     ensures { result ≡ is_pic target }
 {
     match target {
@@ -126,17 +121,6 @@ fn push_line(
     text.extend_from_slice(pairs.as_bytes())?;
     text.push(b'\n')?;
     Ok(())
-}
-
-/// The sum of the bytes modulo 256.
-fn sum_of(bytes: &[u8]) -> u8
-    ensures { result ≡ sum bytes.now % 256 }
-{
-    let mut sum = 0u8;
-    for byte in bytes {
-        sum = sum.wrapping_add(*byte);
-    }
-    sum
 }
 
 #[cfg(test)]

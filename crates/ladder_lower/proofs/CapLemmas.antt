@@ -16,7 +16,7 @@ use Rattle.int_code.specs.declared.op.IntOp.{IntOp}
 use Rattle.ladder_lower.specs.ElementCode.{coil_code, contact_code, element_code}
 use Rattle.ladder_lower.specs.NodeCode.{Piece, series_code, ends, join, others_code, parallel_code, piece, piece_step, nodes_piece, rungs_code, start_by, program_code}
 use Rattle.ladder_lower.specs.declared.layout.Layout.{Layout}
-use Rattle.ladder_lower.proofs.FoldLemmas.{fold-Leaf, fold-Series, fold-Parallel}
+use Rattle.ladder_tree.proofs.FoldLemmas.{fold-Leaf, fold-Series, fold-Parallel}
 use Rattle.ladder_lower.proofs.NodeLemmas.{keep}
 
 -- how many operations there are, by two bounds

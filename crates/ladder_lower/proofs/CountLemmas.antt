@@ -11,7 +11,7 @@ use Rattle.ladder_tree.specs.declared.project.Rung.{Rung}
 use Rattle.ladder_lower.specs.Nesting.{nesting_of_branches, nesting, nesting_step, nesting_of_all}
 use Rattle.ladder_lower.specs.NodeCode.{parallel_code, Piece, series_code, others_code, piece, piece_step, memories_of}
 use Rattle.ladder_lower.specs.declared.layout.Layout.{Layout}
-use Rattle.ladder_lower.proofs.FoldLemmas.{fold-Leaf, fold-Series, fold-Parallel}
+use Rattle.ladder_tree.proofs.FoldLemmas.{fold-Leaf, fold-Series, fold-Parallel}
 
 memories_append : (a b : List leaf.Leaf) → memories_in (a ++ b) ≡ memories_in a + memories_in b
 memories_append [] b = omega arith

@@ -5,18 +5,18 @@ use Rattle.std.specs.Prelude.{slice_index_or}
 use Rattle.ladder_tree.specs.Names.{is_output, is_input, memories}
 use Rattle.ladder_tree.specs.declared.element.CoilMode.TheVariants as mode
 use Rattle.ladder_tree.specs.declared.element.CoilMode.{CoilMode}
-use Rattle.ladder_tree.specs.declared.element.LeafKind.TheVariants.{Contacts, Coil, Osr, Osf, Open, MasterRelay}
+use Rattle.ladder_tree.specs.declared.element.LeafKind.TheVariants.{Contacts, Coil, Osr, Osf, Short, Open, MasterRelay, Placeholder, Comment}
 use Rattle.ladder_tree.specs.declared.element.LeafKind.{LeafKind}
-use Rattle.ladder_meaning.specs.Element.{element, coil}
+use Rattle.ladder_meaning.specs.Element.{Terms, element, coil}
 use Rattle.ladder_meaning.specs.State as ladder
-use Rattle.ladder_meaning.specs.State.{Now, with_bit, with_memory, with_master, place_of, seen}
+use Rattle.ladder_meaning.specs.State.{Seen, Now, with_bit, with_memory, with_master, place_of}
 use Rattle.ladder_meaning.specs.declared.reading.Reading.{Reading}
 use Rattle.int_code.specs.Meaning.{Bits, Moment, all_run, run, value_of, with}
 use Rattle.int_code.specs.declared.op.BitDest.TheVariants as dest
 use Rattle.ladder_lower.specs.ElementCode.{element_code, contact_code, coil_code}
 use Rattle.ladder_lower.specs.Wires.{masters, master, spare, outer_wires, power, wire, source_by, source_of, dest_by, dest_of, memory_bit}
 use Rattle.ladder_lower.specs.declared.layout.Layout.{Layout}
-use Rattle.ladder_lower.proofs.Lowers.{After}
+use Rattle.ladder_lower.proofs.Lowers.{After, levels}
 use Rattle.ladder_lower.proofs.PlaceLemmas.{place_below}
 use Rattle.ladder_lower.proofs.Stands.{Stands, IsHeld, IsNamed}
 use Rattle.ladder_lower.proofs.WriteLemmas.{wire_write, name_write, memory_write, master_write, same, other}
@@ -40,14 +40,14 @@ element_asleep p r Open k m e = rw e refl
 element_asleep p r MasterRelay k m e = rw e refl
 element_asleep p r _ k m e = refl
 
-value_by : (p : Layout) (r : Reading) (s : Now) (t : Bits) (name : List ℕ) (x y : Bool) → is_input name ≡ x → is_output name ≡ y → (is_input name ≡ false → IsHeld p name) → Stands p s t → value_of r t (source_by x y p name) ≡ cond x (slice_index_or r.inputs (place_of p.inputs name) false) (s.bit name)
+value_by : (p : Layout) (r : Reading) (s : Now) (t : Bits) (name : List ℕ) (x y : Bool) → is_input name ≡ x → is_output name ≡ y → (is_input name ≡ false → IsHeld p name) → Stands p s t → value_of r t (source_by x y p name) ≡ cond x (slice_index_or r.inputs (place_of p.inputs name) false) (s.kept.bit name)
 value_by p r s t name true y e f h sh = refl
 value_by p r s t name false true e f h sh = sh.outputs name f (rw f at (h e))
 value_by p r s t name false false e f h sh = sh.relays name f (rw f at (h e))
 
 -- a contact reads what the name means
-pub source_value : (p : Layout) (r : Reading) (s : Now) (t : Bits) (name : List ℕ) → (is_input name ≡ false → IsHeld p name) → Stands p s t → value_of r t (source_of p name) ≡ ladder.value_of (seen p.inputs r) s name
-source_value p r s t name h sh = value_by p r s t name (is_input name) (is_output name) refl refl h sh
+pub source_value : (p : Layout) (r : Reading) (g : Seen) (s : Now) (t : Bits) (name : List ℕ) → (is_input name ≡ false → IsHeld p name) → Stands p s t → value_of r t (source_of p name) ≡ ladder.value_of (levels p g r) s name
+source_value p r g s t name h sh = value_by p r s t name (is_input name) (is_output name) refl refl h sh
 
 -- the power is switched off
 cleared : (p : Layout) (d : ℕ) (m : Moment) (s : Now) (c : ℕ) → Stands p s m.bits → After p d m (record { ifs = m.ifs; bits = with m.bits (dest.B (power p)) false; count = c }) (record { now = s; output = false })
@@ -111,23 +111,23 @@ edge p d m s t k x q false c lt saved pw ws sh = record {
   wires = λ j lo hi. other (memory_bit p k) (wire p j) _ _ (omega arith) ∙ ws j lo;
 }
 
-osr_awake : (p : Layout) (r : Reading) (d k : ℕ) (m : Moment) (s : Now) → k < p.memories → all_run m.ifs ≡ true → Stands p s m.bits → After p d m (run r (element_code p Osr k) m) (element (seen p.inputs r) Osr k s (m.bits.bit (power p)))
-osr_awake p r d k m s lt e sh =
+osr_awake : (p : Layout) (r : Reading) (u : Terms) (g : Seen) (d k : ℕ) (m : Moment) (s : Now) → k < p.memories → all_run m.ifs ≡ true → Stands p s m.bits → After p d m (run r (element_code p Osr k) m) (element u (levels p g r) Osr k s (m.bits.bit (power p)))
+osr_awake p r u g d k m s lt e sh =
     let x = m.bits.bit (power p) in
     let t = with m.bits (dest.B (spare p)) x in
-    let kept : cond (nat_eq (spare p) (memory_bit p k)) x (m.bits.bit (memory_bit p k)) ≡ s.memory k = other (spare p) (memory_bit p k) x _ (omega arith) ∙ sh.memories k lt in
-    rw (e, kept) (edge p d m s t k x x (s.memory k) _ lt (same (spare p) x _) (other (spare p) (power p) x _ (omega arith)) (λ j lo. other (spare p) (wire p j) x _ (omega arith)) (wire_write p s m.bits (1 + masters p) x (spare_apart p) sh))
+    let kept : cond (nat_eq (spare p) (memory_bit p k)) x (m.bits.bit (memory_bit p k)) ≡ s.kept.memory k = other (spare p) (memory_bit p k) x _ (omega arith) ∙ sh.memories k lt in
+    rw (e, kept) (edge p d m s t k x x (s.kept.memory k) _ lt (same (spare p) x _) (other (spare p) (power p) x _ (omega arith)) (λ j lo. other (spare p) (wire p j) x _ (omega arith)) (wire_write p s m.bits (1 + masters p) x (spare_apart p) sh))
 
-osf_awake : (p : Layout) (r : Reading) (d k : ℕ) (m : Moment) (s : Now) → k < p.memories → all_run m.ifs ≡ true → Stands p s m.bits → After p d m (run r (element_code p Osf k) m) (element (seen p.inputs r) Osf k s (m.bits.bit (power p)))
-osf_awake p r d k m s lt e sh =
+osf_awake : (p : Layout) (r : Reading) (u : Terms) (g : Seen) (d k : ℕ) (m : Moment) (s : Now) → k < p.memories → all_run m.ifs ≡ true → Stands p s m.bits → After p d m (run r (element_code p Osf k) m) (element u (levels p g r) Osf k s (m.bits.bit (power p)))
+osf_awake p r u g d k m s lt e sh =
     let x = m.bits.bit (power p) in
     let t0 = with m.bits (dest.B (spare p)) x in
     let unmoved : cond (nat_eq (spare p) (power p)) x (m.bits.bit (power p)) ≡ x = other (spare p) (power p) x _ (omega arith) in
     let t = with t0 (dest.B (power p)) (not x) in
-    let kept : cond (nat_eq (power p) (memory_bit p k)) (not x) (cond (nat_eq (spare p) (memory_bit p k)) x (m.bits.bit (memory_bit p k))) ≡ s.memory k =
+    let kept : cond (nat_eq (power p) (memory_bit p k)) (not x) (cond (nat_eq (spare p) (memory_bit p k)) x (m.bits.bit (memory_bit p k))) ≡ s.kept.memory k =
     other (power p) (memory_bit p k) (not x) _ (omega arith) ∙ other (spare p) (memory_bit p k) x _ (omega arith) ∙ sh.memories k lt in
-    subst (λ (o : Bool). After p d m (run r (element_code p Osf k) m) (record { now = with_memory s k x; output = not x && o })) (not-not (s.memory k))
-    (rw (e, unmoved, kept) (edge p d m s t k x (not x) (not (s.memory k)) _ lt (other (power p) (spare p) (not x) _ (omega arith) ∙ same (spare p) x _) (same (power p) (not x) _)
+    subst (λ (o : Bool). After p d m (run r (element_code p Osf k) m) (record { now = with_memory s k x; output = not x && o })) (not-not (s.kept.memory k))
+    (rw (e, unmoved, kept) (edge p d m s t k x (not x) (not (s.kept.memory k)) _ lt (other (power p) (spare p) (not x) _ (omega arith) ∙ same (spare p) x _) (same (power p) (not x) _)
     (λ j lo. other (power p) (wire p j) (not x) _ (omega arith) ∙ other (spare p) (wire p j) x _ (omega arith))
     (wire_write p s t0 0 (not x) (λ h e. cc) (wire_write p s m.bits (1 + masters p) x (spare_apart p) sh))))
 
@@ -141,15 +141,18 @@ mastered p d m s v c has sh =
       wires = λ j lo hi. other (master p) (wire p j) v _ (omega arith);
     }
 
-master_by : (p : Layout) (r : Reading) (d k : ℕ) (m : Moment) (s : Now) (b : Bool) → p.has_master ≡ true → m.bits.bit (master p) ≡ b → s.master ≡ b → all_run m.ifs ≡ true → Stands p s m.bits → After p d m (run r (element_code p MasterRelay k) m) (element (seen p.inputs r) MasterRelay k s (m.bits.bit (power p)))
-master_by p r d k m s true has v w e sh = rw (e, v, w) (mastered p d m s (m.bits.bit (power p)) _ has sh)
-master_by p r d k m s false has v w e sh = rw (e, v, w) (mastered p d m s true _ has sh)
+master_by : (p : Layout) (r : Reading) (u : Terms) (g : Seen) (d k : ℕ) (m : Moment) (s : Now) (b : Bool) → p.has_master ≡ true → m.bits.bit (master p) ≡ b → s.master ≡ b → all_run m.ifs ≡ true → Stands p s m.bits → After p d m (run r (element_code p MasterRelay k) m) (element u (levels p g r) MasterRelay k s (m.bits.bit (power p)))
+master_by p r u g d k m s true has v w e sh = rw (e, v, w) (mastered p d m s (m.bits.bit (power p)) _ has sh)
+master_by p r u g d k m s false has v w e sh = rw (e, v, w) (mastered p d m s true _ has sh)
 
-pub element_awake : (p : Layout) (r : Reading) (kind : LeafKind) (d k : ℕ) (m : Moment) (s : Now) → IsNamed p kind → k + memories kind ≤ p.memories → all_run m.ifs ≡ true → Stands p s m.bits → After p d m (run r (element_code p kind k) m) (element (seen p.inputs r) kind k s (m.bits.bit (power p)))
-element_awake p r (Contacts name neg) d k m s h lt e sh = contact_by p r neg name d m s (ladder.value_of (seen p.inputs r) s name) (source_value p r s m.bits name (λ e. rw e at h) sh) e sh
-element_awake p r (Coil name mode) d k m s h lt e sh = coil_by p r mode name d m s (m.bits.bit (power p)) refl h e sh
-element_awake p r Osr d k m s h lt e sh = osr_awake p r d k m s (omega arith) e sh
-element_awake p r Osf d k m s h lt e sh = osf_awake p r d k m s (omega arith) e sh
-element_awake p r Open d k m s h lt e sh = rw e (cleared p d m s _ sh)
-element_awake p r MasterRelay d k m s h lt e sh = master_by p r d k m s s.master h (sh.master h) refl e sh
-element_awake p r _ d k m s h lt e sh = stayed p d m s _ _ refl sh
+pub element_awake : (p : Layout) (r : Reading) (u : Terms) (g : Seen) (kind : LeafKind) (d k : ℕ) (m : Moment) (s : Now) → IsNamed p kind → k + memories kind ≤ p.memories → all_run m.ifs ≡ true → Stands p s m.bits → After p d m (run r (element_code p kind k) m) (element u (levels p g r) kind k s (m.bits.bit (power p)))
+element_awake p r u g (Contacts name neg) d k m s h lt e sh = contact_by p r neg name d m s (ladder.value_of (levels p g r) s name) (source_value p r g s m.bits name (λ e. rw e at h) sh) e sh
+element_awake p r u g (Coil name mode) d k m s h lt e sh = coil_by p r mode name d m s (m.bits.bit (power p)) refl h e sh
+element_awake p r u g Osr d k m s h lt e sh = osr_awake p r u g d k m s (omega arith) e sh
+element_awake p r u g Osf d k m s h lt e sh = osf_awake p r u g d k m s (omega arith) e sh
+element_awake p r u g Open d k m s h lt e sh = rw e (cleared p d m s _ sh)
+element_awake p r u g MasterRelay d k m s h lt e sh = master_by p r u g d k m s s.master h (sh.master h) refl e sh
+element_awake p r u g Short d k m s h lt e sh = stayed p d m s _ _ refl sh
+element_awake p r u g Placeholder d k m s h lt e sh = stayed p d m s _ _ refl sh
+element_awake p r u g (Comment text) d k m s h lt e sh = stayed p d m s _ _ refl sh
+element_awake p r u g _ d k m s h lt e sh = absurd h

@@ -2,10 +2,12 @@
 use Rattle.std.proofs.Common.{◌≡◌, ℕ, ◌+◌, ◌≤◌, Bool, true, false, List, [], ◌∷◌, map, refl, sym, ap, ◌∙◌, arith}
 use Rattle.ladder_tree.specs.Leaves.{leaves_in, all_leaves}
 use Rattle.ladder_tree.specs.declared.names.Names.{Names}
+use Rattle.ladder_tree.specs.declared.project.Project.{Project}
 use Rattle.ladder_tree.specs.declared.project.Rung.{Rung}
-use Rattle.ladder_meaning.specs.Cycle.{State, rungs, begin, end_of, cycle, history}
+use Rattle.ladder_meaning.specs.Cycle.{terms, rungs, begin, cycle, history}
+use Rattle.ladder_meaning.specs.Element.{Terms}
 use Rattle.ladder_meaning.specs.Node.{nodes}
-use Rattle.ladder_meaning.specs.State.{Now, place_of, seen}
+use Rattle.ladder_meaning.specs.State.{State, Seen, Now, place_of, seen}
 use Rattle.ladder_meaning.specs.declared.reading.Reading.{Reading}
 use Rattle.int_code.specs.Meaning as int
 use Rattle.int_code.specs.Meaning.{Bits, Moment, all_run, run, step, with}
@@ -13,6 +15,7 @@ use Rattle.ladder_lower.specs.Correct.{Shows, ShowsAll, KeepsHistory}
 use Rattle.ladder_lower.specs.NodeCode.{rung_start_by, rung_start, rungs_code, start_by, program_code, nodes_piece, memories_of}
 use Rattle.ladder_lower.specs.Wires.{layout_of, memory_bit, power, master}
 use Rattle.ladder_lower.specs.declared.layout.Layout.{Layout}
+use Rattle.ladder_lower.proofs.Lowers.{levels}
 use Rattle.ladder_lower.proofs.LeafLemmas.{named_front, named_back}
 use Rattle.ladder_lower.proofs.NodeLemmas.{nodes_lower, run-append}
 use Rattle.ladder_lower.proofs.PlaceLemmas.{place_below, get_place, held_get}
@@ -23,7 +26,7 @@ record RungsAfter (p : Layout) (m l : Moment) (s : Now) : Type 0 where
   ifs : l.ifs ≡ m.ifs
   shows : Stands p s l.bits
 
-module _ (p : Layout) (r : Reading) where
+module _ (p : Layout) (r : Reading) (u : Terms) (v : Seen) where
   record RungBegins (m l : Moment) (s : Now) : Type 0 where
     ifs : l.ifs ≡ m.ifs
     shows : Stands p s l.bits
@@ -44,10 +47,10 @@ module _ (p : Layout) (r : Reading) where
   rung_begins : (m : Moment) (s : Now) → all_run m.ifs ≡ true → Stands p s m.bits → RungBegins m (step r (rung_start p) m) s
   rung_begins m s = rung_begins_by p.has_master m s refl
 
-  rungs_lower : (gs : List Rung) (k : ℕ) (m : Moment) (s : Now) → AllNamed p (all_leaves gs) → k + memories_of p gs ≤ p.memories → all_run m.ifs ≡ true → Stands p s m.bits → RungsAfter p m (run r (rungs_code p gs k) m) (rungs (seen p.inputs r) gs k s)
+  rungs_lower : (gs : List Rung) (k : ℕ) (m : Moment) (s : Now) → AllNamed p (all_leaves gs) → k + memories_of p gs ≤ p.memories → all_run m.ifs ≡ true → Stands p s m.bits → RungsAfter p m (run r (rungs_code p gs k) m) (rungs u (levels p v r) gs k s)
   rungs_lower [] k m s all lt on sh = record { ifs = refl; shows = sh }
   rungs_lower (g ∷ gs) k m s all lt on sh =
-      let f = nodes_lower p r g.nodes (named_front p (leaves_in g.nodes) (all_leaves gs) all) in
+      let f = nodes_lower p r u v g.nodes (named_front p (leaves_in g.nodes) (all_leaves gs) all) in
       let mem = f.memories in
       let m1 = step r (rung_start p) m in
       let b = rung_begins m s on sh in
@@ -55,7 +58,7 @@ module _ (p : Layout) (r : Reading) where
       let m2 = run r ((nodes_piece p g.nodes).code 0 k) m1 in
       let a = f.awake 0 k m1 s (omega arith) on1 b.shows in
       let on2 : all_run m2.ifs ≡ true = ap all_run a.ifs ∙ on1 in
-      let c = rungs_lower gs (k + (nodes (seen p.inputs r) g.nodes).memories) m2 _ (named_back p (leaves_in g.nodes) (all_leaves gs) all) (omega arith) on2 a.shows in
+      let c = rungs_lower gs (k + (nodes u (levels p v r) g.nodes).memories) m2 _ (named_back p (leaves_in g.nodes) (all_leaves gs) all) (omega arith) on2 a.shows in
       rw (run-append r ((nodes_piece p g.nodes).code 0 k) (rungs_code p gs (k + (nodes_piece p g.nodes).memories)) m1, mem)
       (record {
         ifs = c.ifs ∙ a.ifs ∙ b.ifs;
@@ -68,7 +71,7 @@ module _ (n : Names) (has : Bool) (r : Reading) where
 
   record Begins (m : Moment) (s : State) : Type 0 where
     ifs : m.ifs ≡ []
-    shows : Stands p (begin s) m.bits
+    shows : Stands p (begin s (seen n r)) m.bits
 
   begins_by : (b : Bool) (s : State) (t : Bits) → has ≡ b → Shows n s t → Begins (run r (start_by b p) (int.begin t)) s
   begins_by true s t e sh = record {
@@ -92,22 +95,22 @@ module _ (n : Names) (has : Bool) (r : Reading) where
     };
   }
 
-  ends : (s : Now) (t : Bits) → Listed n → Stands p s t → Shows n (end_of s) t
+  ends : (s : Now) (t : Bits) → Listed n → Stands p s t → Shows n s.kept t
   ends s t is sh = record {
     relays = λ k lt. ap t.bit (sym (is.relays.place k lt)) ∙ sh.relays _ (is.relays.kind k lt) (held_get p.relays k lt);
     outputs = λ k lt. ap t.output (sym (is.outputs.place k lt)) ∙ sh.outputs _ (is.outputs.kind k lt) (held_get p.outputs k lt);
     memories = sh.memories;
   }
 
-  cycle_lowers : (gs : List Rung) (s : State) (t : Bits) → Listed n → AllNamed p (all_leaves gs) → memories_of p gs ≤ n.memories → Shows n s t → Shows n (cycle gs s (seen n.inputs r)) (int.cycle r (program_code p gs) t).bits
-  cycle_lowers gs s t is all lt sh =
+  cycle_lowers : (q : Project) (s : State) (t : Bits) → Listed n → AllNamed p (all_leaves q.rungs) → memories_of p q.rungs ≤ n.memories → Shows n s t → Shows n (cycle q s (seen n r)).state (int.cycle r (program_code p q.rungs) t).bits
+  cycle_lowers q s t is all lt sh =
       let b = begins_by has s t refl sh in
       let m = run r (start_by has p) (int.begin t) in
-      rw (run-append r (start_by has p) (rungs_code p gs 0) (int.begin t)) (ends _ _ is (rungs_lower p r gs 0 m (begin s) all (omega arith) (ap all_run b.ifs) b.shows).shows)
+      rw (run-append r (start_by has p) (rungs_code p q.rungs 0) (int.begin t)) (ends _ _ is (rungs_lower p r (terms q) (seen n r) q.rungs 0 m (begin s (seen n r)) all (omega arith) (ap all_run b.ifs) b.shows).shows)
 
-pub keeps_history : (n : Names) (has : Bool) (gs : List Rung) → Listed n → AllNamed (layout_of n has) (all_leaves gs) → memories_of (layout_of n has) gs ≤ n.memories → KeepsHistory n gs (program_code (layout_of n has) gs)
-keeps_history n has gs is all lt = record { each = each }
+pub keeps_history : (n : Names) (has : Bool) (q : Project) → Listed n → AllNamed (layout_of n has) (all_leaves q.rungs) → memories_of (layout_of n has) q.rungs ≤ n.memories → KeepsHistory n q (program_code (layout_of n has) q.rungs)
+keeps_history n has q is all lt = record { each = each }
   where
-    each : (s : State) (t : Bits) (rs : List Reading) → Shows n s t → ShowsAll n (history gs s (map (seen n.inputs) rs)) (int.history (program_code (layout_of n has) gs) t rs)
+    each : (s : State) (t : Bits) (rs : List Reading) → Shows n s t → ShowsAll n (history q s (map (seen n) rs)) (int.history (program_code (layout_of n has) q.rungs) t rs)
     each s t [] sh = tt
-    each s t (r ∷ rs) sh = let now = cycle_lowers n has r gs s t is all lt sh in (now, each (cycle gs s (seen n.inputs r)) (int.cycle r (program_code (layout_of n has) gs) t).bits rs now)
+    each s t (r ∷ rs) sh = let now = cycle_lowers n has r q s t is all lt sh in (now, each (cycle q s (seen n r)).state (int.cycle r (program_code (layout_of n has) q.rungs) t).bits rs now)

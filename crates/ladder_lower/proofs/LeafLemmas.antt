@@ -4,7 +4,7 @@ use Rattle.ladder_tree.specs.Leaves.{leaves, leaves_in, leaves_step}
 use Rattle.ladder_tree.specs.declared.element.Leaf as leaf
 use Rattle.ladder_tree.specs.declared.project.Node.{Node, Leaf, Series, Parallel}
 use Rattle.ladder_lower.specs.declared.layout.Layout.{Layout}
-use Rattle.ladder_lower.proofs.FoldLemmas.{fold-Leaf, fold-Series, fold-Parallel}
+use Rattle.ladder_tree.proofs.FoldLemmas.{fold-Leaf, fold-Series, fold-Parallel}
 use Rattle.ladder_lower.proofs.Stands.{AllNamed}
 
 pub leaves-Leaf : (l : leaf.Leaf) → leaves (Leaf l) ≡ l ∷ []

@@ -1,4 +1,3 @@
-pub mod FoldLemmas
 pub mod NameLemmas
 pub mod NestLemmas
 pub mod RangeLemmas

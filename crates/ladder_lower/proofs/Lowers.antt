@@ -1,14 +1,19 @@
 -- A part's operations do what the part does.
+use Rattle.std.specs.Prelude.{slice_index_or}
 use Rattle.std.proofs.Common.{◌≡◌, ℕ, ◌+◌, ◌<◌, ◌≤◌, true, false}
-use Rattle.ladder_meaning.specs.Element.{Went}
+use Rattle.ladder_meaning.specs.Device.{Went}
 use Rattle.ladder_meaning.specs.Node.{Part}
-use Rattle.ladder_meaning.specs.State.{Now}
+use Rattle.ladder_meaning.specs.State.{Seen, Now, place_of}
 use Rattle.ladder_meaning.specs.declared.reading.Reading.{Reading}
 use Rattle.int_code.specs.Meaning.{Moment, all_run, run}
 use Rattle.ladder_lower.specs.NodeCode.{Piece}
 use Rattle.ladder_lower.specs.Wires.{outer_wires, wires, power, wire}
 use Rattle.ladder_lower.specs.declared.layout.Layout.{Layout}
 use Rattle.ladder_lower.proofs.Stands.{Stands}
+
+-- what a ladder sees, with the levels of a reading
+abbrev pub levels : Layout → Seen → Reading → Seen
+levels p g r = record g { level = λ name. slice_index_or r.inputs (place_of p.inputs name) false }
 
 -- the later moment shows what the part did, and the wires of the d outer PARALLELs stay
 pub record After (p : Layout) (d : ℕ) (m l : Moment) (w : Went) : Type 0 where

@@ -6,10 +6,11 @@ use Rattle.std.proofs.lemmas.Slice.Eq.{bytes_eq-Decides}
 use Rattle.std.specs.List.{list_any}
 use Rattle.std.specs.Prelude.{slice_index_or, filter}
 use Rattle.std.specs.Str.{bytes_eq}
+use Rattle.ladder_tree.specs.BitWords.{is_bit_word, all_bit_words}
 use Rattle.ladder_tree.specs.Leaves.{all_leaves}
 use Rattle.ladder_tree.specs.Names.{is_input, is_output, is_relay, bit_names, all_bits, firsts_from, firsts, names_of, memories, memories_in, has_kind, all_well_named}
 use Rattle.ladder_tree.specs.declared.element.Leaf as leaf
-use Rattle.ladder_tree.specs.declared.element.LeafKind.TheVariants.{Contacts, Coil, MasterRelay, Osr, Osf, Counter, Shift}
+use Rattle.ladder_tree.specs.declared.element.LeafKind.TheVariants.{Contacts, Coil, MasterRelay, Osr, Osf, Short, Open, Placeholder, Comment, Counter, Shift}
 use Rattle.ladder_tree.specs.declared.element.LeafKind.{LeafKind}
 use Rattle.ladder_tree.specs.declared.names.Names.{Names}
 use Rattle.ladder_tree.specs.declared.project.Rung.{Rung}
@@ -150,18 +151,26 @@ picks false false r a b c e f g h = h e
 one_held : (name : List ℕ) → held (name ∷ []) name ≡ true
 one_held name = rw (bytes_same name) refl
 
-named_by : (p : Layout) (kind : LeafKind) → has_kind kind ≡ true → Lists p (bit_names kind) → (is_master kind ≡ true → p.has_master ≡ true) → IsNamed p kind
-named_by p (Contacts name neg) e f h = let one = one_held name in picks (is_input name) (is_output name) (is_relay name) _ _ _ e (f.inputs name one) (f.outputs name one) (f.relays name one)
-named_by p (Coil name mode) e f h = let one = one_held name in picks false (is_output name) (is_relay name) true _ _ e (λ q. refl) (f.outputs name one) (f.relays name one)
-named_by p MasterRelay e f h = h refl
-named_by p _ e f h = tt
+named_by : (p : Layout) (kind : LeafKind) → is_bit_word kind ≡ true → has_kind kind ≡ true → Lists p (bit_names kind) → (is_master kind ≡ true → p.has_master ≡ true) → IsNamed p kind
+named_by p (Contacts name neg) w e f h = let one = one_held name in picks (is_input name) (is_output name) (is_relay name) _ _ _ e (f.inputs name one) (f.outputs name one) (f.relays name one)
+named_by p (Coil name mode) w e f h = let one = one_held name in picks false (is_output name) (is_relay name) true _ _ e (λ q. refl) (f.outputs name one) (f.relays name one)
+named_by p MasterRelay w e f h = h refl
+named_by p Osr w e f h = tt
+named_by p Osf w e f h = tt
+named_by p Short w e f h = tt
+named_by p Open w e f h = tt
+named_by p Placeholder w e f h = tt
+named_by p (Comment text) w e f h = tt
+named_by p _ w e f h = absurd (cc)
 
-all_named : (p : Layout) (ls : List leaf.Leaf) → all_well_named ls ≡ true → Lists p (all_bits ls) → (any_master ls ≡ true → p.has_master ≡ true) → AllNamed p ls
-all_named p [] e f h = tt
-all_named p (l ∷ ls) e f h =
+all_named : (p : Layout) (ls : List leaf.Leaf) → all_bit_words ls ≡ true → all_well_named ls ≡ true → Lists p (all_bits ls) → (any_master ls ≡ true → p.has_master ≡ true) → AllNamed p ls
+all_named p [] w e f h = tt
+all_named p (l ∷ ls) w e f h =
+    let word : is_bit_word l.kind ≡ true = grind (arith, w) in
+    let words : all_bit_words ls ≡ true = grind (arith, w) in
     let kind : has_kind l.kind ≡ true = grind (arith, e) in
     let rest : all_well_named ls ≡ true = grind (arith, e) in
-    (named_by p l.kind kind (lists_front p (bit_names l.kind) (all_bits ls) f) (λ q. h (or_left _ _ q)), all_named p ls rest (lists_back p (bit_names l.kind) (all_bits ls) f) (λ q. h (or_right _ _ q)))
+    (named_by p l.kind word kind (lists_front p (bit_names l.kind) (all_bits ls) f) (λ q. h (or_left _ _ q)), all_named p ls words rest (lists_back p (bit_names l.kind) (all_bits ls) f) (λ q. h (or_right _ _ q)))
 
 input_kind : (m : List ℕ) → is_input m ≡ true → is_output m ≡ false
 input_kind m e = grind (arith, nat_tests, e)
@@ -172,10 +181,10 @@ relay_kind m e = grind (arith, nat_tests, e)
 held_firsts : (y : Bool) (is_kind : List ℕ → Bool) (ns : List (List ℕ)) → ((m : List ℕ) → is_kind m ≡ true → is_output m ≡ y) → (m : List ℕ) → held ns m ≡ true → is_kind m ≡ true → held (firsts (filter is_kind ns)) m ≡ true
 held_firsts y is_kind ns f m h k = (firsts_seen y (filter is_kind ns) (filter_kind y is_kind ns f)).new m (held_filter is_kind ns m k h)
 
-pub names_named : (gs : List Rung) → all_well_named (all_leaves gs) ≡ true → AllNamed (layout_of (names_of gs) (any_master (all_leaves gs))) (all_leaves gs)
-names_named gs e =
+pub names_named : (gs : List Rung) → all_bit_words (all_leaves gs) ≡ true → all_well_named (all_leaves gs) ≡ true → AllNamed (layout_of (names_of gs) (any_master (all_leaves gs))) (all_leaves gs)
+names_named gs w e =
     let ns = all_bits (all_leaves gs) in
-    all_named (layout_of (names_of gs) (any_master (all_leaves gs))) (all_leaves gs) e (record {
+    all_named (layout_of (names_of gs) (any_master (all_leaves gs))) (all_leaves gs) w e (record {
       inputs = held_firsts false is_input ns input_kind;
       outputs = held_firsts true is_output ns (λ m q. q);
       relays = held_firsts false is_relay ns relay_kind;

@@ -6,9 +6,10 @@ use Rattle.ladder_tree.specs.Leaves.{leaves, leaves_in}
 use Rattle.ladder_tree.specs.declared.element.Leaf as leaf
 use Rattle.ladder_tree.specs.declared.project.Node.TheOpen.{Node-F}
 use Rattle.ladder_tree.specs.declared.project.Node.{Node}
-use Rattle.ladder_meaning.specs.Element.{Went}
+use Rattle.ladder_meaning.specs.Device.{Went}
+use Rattle.ladder_meaning.specs.Element.{Terms}
 use Rattle.ladder_meaning.specs.Node.{Part, series, parallel, node_step, node, nodes}
-use Rattle.ladder_meaning.specs.State.{Now, seen}
+use Rattle.ladder_meaning.specs.State.{Seen, Now}
 use Rattle.ladder_meaning.specs.declared.reading.Reading.{Reading}
 use Rattle.int_code.specs.Meaning.{Moment, all_run, run, step}
 use Rattle.int_code.specs.declared.op.BitDest.TheVariants as dest
@@ -19,9 +20,9 @@ use Rattle.ladder_lower.specs.NodeCode.{Piece, series_code, others_code, join, f
 use Rattle.ladder_lower.specs.Wires.{power, wire, masters, outer_wires, wires, in_wire, or_wire}
 use Rattle.ladder_lower.specs.declared.layout.Layout.{Layout}
 use Rattle.ladder_lower.proofs.ElementLemmas.{element_asleep, element_awake}
-use Rattle.ladder_lower.proofs.FoldLemmas.{fold-Leaf, fold-Series, fold-Parallel}
+use Rattle.ladder_tree.proofs.FoldLemmas.{fold-Leaf, fold-Series, fold-Parallel}
 use Rattle.ladder_lower.proofs.LeafLemmas.{leaves-Leaf, leaves-Series, leaves-Parallel, named_front, named_back}
-use Rattle.ladder_lower.proofs.Lowers.{After, Lowers}
+use Rattle.ladder_lower.proofs.Lowers.{After, Lowers, levels}
 use Rattle.ladder_lower.proofs.Stands.{Stands, AllNamed, IsNamed}
 use Rattle.ladder_lower.proofs.WriteLemmas.{wire_write, same, other}
 
@@ -66,11 +67,11 @@ two_lower p r a b c e f g = record {
       rw (run-append r (c.code d k) (e.code d (k + c.memories)) m, f.memories) (after_both p d m l _ _ _ first (rw first.power at second));
 }
 
-module _ (p : Layout) (r : Reading) where
+module _ (p : Layout) (r : Reading) (u : Terms) (g : Seen) where
   abbrev NodeLowers : Node → Type 0
-  NodeLowers n = Lowers p r (node (seen p.inputs r) n) (piece p n)
+  NodeLowers n = Lowers p r (node u (levels p g r) n) (piece p n)
 
-  pub series_lower : (ns : List Node) → Each NodeLowers ns → Lowers p r (series (map (node (seen p.inputs r)) ns)) (series_code (map (piece p) ns))
+  pub series_lower : (ns : List Node) → Each NodeLowers ns → Lowers p r (series (map (node u (levels p g r)) ns)) (series_code (map (piece p) ns))
   series_lower [] h = none_lowers p r
   series_lower (n ∷ ns) h = two_lower p r _ _ _ _ h.0 (series_lower ns h.1)
 
@@ -330,40 +331,40 @@ only_lowers p r a c f = record {
   };
 }
 
-module _ (p : Layout) (r : Reading) where
-  others_lower : (n : Node) (ns : List Node) → NodeLowers p r n → Each (NodeLowers p r) ns → OthersLower p r (parallel (map (node (seen p.inputs r)) (n ∷ ns))) (others_code p (map (piece p) (n ∷ ns)))
+module _ (p : Layout) (r : Reading) (u : Terms) (g : Seen) where
+  others_lower : (n : Node) (ns : List Node) → NodeLowers p r u g n → Each (NodeLowers p r u g) ns → OthersLower p r (parallel (map (node u (levels p g r)) (n ∷ ns))) (others_code p (map (piece p) (n ∷ ns)))
   others_lower n [] f h = last_lowers p r _ _ f
   others_lower n (o ∷ ns) f h = middle_lowers p r _ _ _ _ f (others_lower o ns h.0 h.1)
 
-  pub parallel_lower : (ns : List Node) → Each (NodeLowers p r) ns → Lowers p r (parallel (map (node (seen p.inputs r)) ns)) (parallel_code p (map (piece p) ns))
+  pub parallel_lower : (ns : List Node) → Each (NodeLowers p r u g) ns → Lowers p r (parallel (map (node u (levels p g r)) ns)) (parallel_code p (map (piece p) ns))
   parallel_lower [] h = off_lowers p r
   parallel_lower (n ∷ []) h = only_lowers p r _ _ h.0
   parallel_lower (n ∷ o ∷ ns) h = fork_lowers p r _ _ _ _ h.0 (others_lower o ns h.1.0 h.1.1)
 
-  leaf_lowers : (l : leaf.Leaf) → IsNamed p l.kind → Lowers p r (node_step (seen p.inputs r) (Node-F.Leaf l)) (piece_step p (Node-F.Leaf l))
+  leaf_lowers : (l : leaf.Leaf) → IsNamed p l.kind → Lowers p r (node_step u (levels p g r) (Node-F.Leaf l)) (piece_step p (Node-F.Leaf l))
   leaf_lowers l h = record {
     memories = refl;
     asleep = λ d k m off. element_asleep p r l.kind k m off;
-    awake = λ d k m s lt on sh. element_awake p r l.kind d k m s h lt on sh;
+    awake = λ d k m s lt on sh. element_awake p r u g l.kind d k m s h lt on sh;
   }
 
   abbrev NamedLowers : Node → Type 0
-  NamedLowers n = AllNamed p (leaves n) → NodeLowers p r n
+  NamedLowers n = AllNamed p (leaves n) → NodeLowers p r u g n
 
-  each_lowers : (ns : List Node) → Each NamedLowers ns → AllNamed p (leaves_in ns) → Each (NodeLowers p r) ns
+  each_lowers : (ns : List Node) → Each NamedLowers ns → AllNamed p (leaves_in ns) → Each (NodeLowers p r u g) ns
   each_lowers [] h all = tt
   each_lowers (n ∷ ns) h all = (h.0 (named_front p (leaves n) (leaves_in ns) all), each_lowers ns h.1 (named_back p (leaves n) (leaves_in ns) all))
 
   -- whatever the tree
-  pub node_lowers : (n : Node) → AllNamed p (leaves n) → NodeLowers p r n
+  pub node_lowers : (n : Node) → AllNamed p (leaves n) → NodeLowers p r u g n
   node_lowers = node_ind NamedLowers
-      (λ l all. rw (fold-Leaf Part (node_step (seen p.inputs r)) l, fold-Leaf Piece (piece_step p) l) (leaf_lowers l (rw (leaves-Leaf l) at all).0))
-      (λ ns h all. rw (fold-Series Part (node_step (seen p.inputs r)) ns, fold-Series Piece (piece_step p) ns) (series_lower p r ns (each_lowers ns h (rw (leaves-Series ns) at all))))
-      (λ ns h all. rw (fold-Parallel Part (node_step (seen p.inputs r)) ns, fold-Parallel Piece (piece_step p) ns) (parallel_lower ns (each_lowers ns h (rw (leaves-Parallel ns) at all))))
+      (λ l all. rw (fold-Leaf Part (node_step u (levels p g r)) l, fold-Leaf Piece (piece_step p) l) (leaf_lowers l (rw (leaves-Leaf l) at all).0))
+      (λ ns h all. rw (fold-Series Part (node_step u (levels p g r)) ns, fold-Series Piece (piece_step p) ns) (series_lower p r u g ns (each_lowers ns h (rw (leaves-Series ns) at all))))
+      (λ ns h all. rw (fold-Parallel Part (node_step u (levels p g r)) ns, fold-Parallel Piece (piece_step p) ns) (parallel_lower ns (each_lowers ns h (rw (leaves-Parallel ns) at all))))
 
-  pub nodes_lower : (ns : List Node) → AllNamed p (leaves_in ns) → Lowers p r (nodes (seen p.inputs r) ns) (nodes_piece p ns)
-  nodes_lower ns all = series_lower p r ns (each_of ns all)
+  pub nodes_lower : (ns : List Node) → AllNamed p (leaves_in ns) → Lowers p r (nodes u (levels p g r) ns) (nodes_piece p ns)
+  nodes_lower ns all = series_lower p r u g ns (each_of ns all)
     where
-      each_of : (ns : List Node) → AllNamed p (leaves_in ns) → Each (NodeLowers p r) ns
+      each_of : (ns : List Node) → AllNamed p (leaves_in ns) → Each (NodeLowers p r u g) ns
       each_of [] all = tt
       each_of (n ∷ ns) all = (node_lowers n (named_front p (leaves n) (leaves_in ns) all), each_of ns (named_back p (leaves n) (leaves_in ns) all))

@@ -1,10 +1,13 @@
 -- What is known of a project whose names are its lists.
-use Rattle.std.proofs.Common.{◌≡◌, ◌+◌, ◌≤◌, Bool, true, false, cond, List, length, ap, arith}
+use Rattle.std.proofs.Common.{◌≡◌, ◌+◌, ◌≤◌, Bool, true, false, cond, List, length, ap, ◌∙◌, arith}
+use Rattle.ladder_tree.specs.BitWords.{all_bit_words}
 use Rattle.ladder_tree.specs.Leaves.{all_leaves, depth_of_all}
 use Rattle.ladder_tree.specs.Names.{names_of, all_well_named}
 use Rattle.ladder_tree.specs.Size.{size_of_all}
 use Rattle.ladder_tree.specs.declared.names.Names.{Names}
+use Rattle.ladder_tree.specs.declared.project.Project.{Project}
 use Rattle.ladder_tree.specs.declared.project.Rung.{Rung}
+use Rattle.ladder_tree.proofs.BitWordLemmas.{no_variables, no_analogs, no_persistents}
 use Rattle.int_code.specs.Caps.{ops_cap}
 use Rattle.int_code.specs.WellFormed.{IsWellFormed, sizes_of}
 use Rattle.int_code.specs.declared.op.IntProgram.{IntProgram}
@@ -27,6 +30,7 @@ use Rattle.ladder_lower.proofs.Stands.{AllNamed}
 pub record Lowered (n : Names) (gs : List Rung) : Type 0 where
   pub names : n ≡ names_of gs
   pub named : all_well_named (all_leaves gs) ≡ true
+  pub bit_words : all_bit_words (all_leaves gs) ≡ true
   pub depth : depth_of_all gs ≤ 16
   pub size : size_of_all gs ≤ 65536
 
@@ -43,9 +47,9 @@ small n gs l =
     record {
       inputs = rw e (let x = c.inputs in omega arith);
       outputs = rw e (let x = c.outputs in omega arith);
-      analogs = rw e (omega arith);
-      variables = rw e (omega arith);
-      persistent = rw e (omega arith);
+      analogs = rw (e, no_analogs gs l.bit_words) (omega arith);
+      variables = rw (e, no_variables gs l.bit_words) (omega arith);
+      persistent = rw (e, no_persistents gs l.bit_words) (omega arith);
       kept = rw e (let x = c.kept in omega arith);
     }
 
@@ -57,7 +61,7 @@ abbrev pub layout : Names → List Rung → Layout
 layout n gs = layout_of n (any_master (all_leaves gs))
 
 pub named : (n : Names) (gs : List Rung) → Lowered n gs → AllNamed (layout n gs) (all_leaves gs)
-named n gs l = rw l.names (names_named gs l.named)
+named n gs l = rw l.names (names_named gs l.bit_words l.named)
 
 pub fits : (n : Names) (gs : List Rung) → Lowered n gs → Fits (layout n gs) (nesting_of_all gs)
 fits n gs l =
@@ -70,8 +74,8 @@ fits n gs l =
 pub room : (n : Names) (gs : List Rung) → Lowered n gs → memories_of (layout n gs) gs ≤ n.memories
 room n gs l = let m = rungs_count_memories (layout n gs) gs in rw (m, l.names) (omega arith)
 
-pub keeps : (n : Names) (gs : List Rung) → Lowered n gs → KeepsHistory n gs (program_code (layout n gs) gs)
-keeps n gs l = keeps_history n (any_master (all_leaves gs)) gs (rw l.names (names_listed gs)) (named n gs l) (room n gs l)
+pub keeps : (n : Names) (q : Project) → Lowered n q.rungs → KeepsHistory n q (program_code (layout n q.rungs) q.rungs)
+keeps n q l = keeps_history n (any_master (all_leaves q.rungs)) q (rw l.names (names_listed q.rungs)) (named n q.rungs l) (room n q.rungs l)
 
 pub capped : (p : Layout) (gs : List Rung) → length (program_code p gs) ≤ ops_cap gs
 capped p gs = (program_short p gs).within
@@ -91,7 +95,7 @@ formed n gs q l s bits ops =
       nests = rw ops (program_nests (layout n gs) gs);
       range = rw ops (program_in (layout n gs) (sizes_of q) (nesting_of_all gs) (record { bits = omega arith; outputs = omega arith; inputs = omega arith }) gs (omega arith) (room n gs l) (named n gs l));
       kept = omega arith;
-      starts = let v = ap (λ (m : Names). length m.variables) l.names in let w = s.variables in let b = ap length s.starts in omega arith;
+      starts = let v = ap (λ (m : Names). length m.variables) l.names ∙ ap length (no_variables gs l.bit_words) in let w = s.variables in let b = ap length s.starts in omega arith;
     }
 
 pub roomy : (n : Names) (gs : List Rung) (p : Layout) (q : IntProgram) → Lowered n gs → HasSizes n q → q.ops ≡ program_code p gs → HasRoom q

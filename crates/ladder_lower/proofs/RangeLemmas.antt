@@ -19,7 +19,7 @@ use Rattle.ladder_lower.specs.Nesting.{nesting_of_branches, nesting, nesting_in,
 use Rattle.ladder_lower.specs.NodeCode.{Piece, ends, join, others_code, parallel_code, piece, piece_step, nodes_piece, rung_start_by, rungs_code, start_by, program_code, memories_of}
 use Rattle.ladder_lower.specs.Wires.{dest_by, dest_of, source_by, source_of, wire, wires, masters}
 use Rattle.ladder_lower.specs.declared.layout.Layout.{Layout}
-use Rattle.ladder_lower.proofs.FoldLemmas.{fold-Leaf, fold-Series, fold-Parallel}
+use Rattle.ladder_tree.proofs.FoldLemmas.{fold-Leaf, fold-Series, fold-Parallel}
 use Rattle.ladder_lower.proofs.LeafLemmas.{named_front, named_back}
 use Rattle.ladder_lower.proofs.PlaceLemmas.{place_below}
 use Rattle.ladder_lower.proofs.Stands.{held, IsHeld, IsNamed, AllNamed}

@@ -55,7 +55,7 @@ apart_kinds a b y e ne = grind (arith, bytes_tells)
 
 write_by : (p : Layout) (s : Now) (t : Bits) (name : List ℕ) (v y : Bool) → is_output name ≡ y → IsHeld p name → Stands p s t → Stands p (with_bit s name v) (with t (dest_by y p name) v)
 write_by p s t name v true e h sh = record {
-  relays = λ n y k. sh.relays n y k ∙ sym (ap (λ b. cond b v (s.bit n)) (apart_kinds name n true e (λ f. cc)));
+  relays = λ n y k. sh.relays n y k ∙ sym (ap (λ b. cond b v (s.kept.bit n)) (apart_kinds name n true e (λ f. cc)));
   outputs = λ n y k. both _ _ v _ _ (place_apart p.outputs name n (rw e at h)) (sh.outputs n y k);
   memories = sh.memories;
   master = sh.master;
@@ -63,7 +63,7 @@ write_by p s t name v true e h sh = record {
 }
 write_by p s t name v false e h sh = record {
   relays = λ n y k. both _ _ v _ _ (place_apart p.relays name n (rw e at h)) (sh.relays n y k);
-  outputs = λ n y k. sh.outputs n y k ∙ sym (ap (λ b. cond b v (s.bit n)) (apart_kinds name n false e (λ f. cc)));
+  outputs = λ n y k. sh.outputs n y k ∙ sym (ap (λ b. cond b v (s.kept.bit n)) (apart_kinds name n false e (λ f. cc)));
   memories = λ k lt. other (place_of p.relays name) (memory_bit p k) v _ (let lt = place_below p.relays name (rw e at h) in omega (arith, lt)) ∙ sh.memories k lt;
   master = λ b. other (place_of p.relays name) (master p) v _ (let lt = place_below p.relays name (rw e at h) in omega (arith, lt)) ∙ sh.master b;
   plain = sh.plain;

@@ -1,10 +1,10 @@
 -- The main statement: the operations keep the ladder's history.
 use Rattle.std.specs.Prelude.{◌≡◌, ℕ, ◌+◌, ◌<◌, List, [], ◌∷◌, length, map, slice_index_or}
 use Rattle.ladder_tree.specs.declared.names.Names.{Names}
-use Rattle.ladder_tree.specs.declared.project.Rung.{Rung}
+use Rattle.ladder_tree.specs.declared.project.Project.{Project}
 use Rattle.ladder_meaning.specs.declared.reading.Reading.{Reading}
-use Rattle.ladder_meaning.specs.State.{seen}
-use Rattle.ladder_meaning.specs.Cycle.{State, history}
+use Rattle.ladder_meaning.specs.State.{State, seen}
+use Rattle.ladder_meaning.specs.Cycle.{Ended, history}
 use Rattle.int_code.specs.declared.op.IntOp.{IntOp}
 use Rattle.int_code.specs.Meaning.{Bits, Moment}
 use Rattle.int_code.specs.Meaning as int
@@ -16,12 +16,12 @@ pub record Shows (n : Names) (s : State) (t : Bits) : Type 0 where
   pub memories : (k : ℕ) → k < n.memories → t.bit (length n.relays + k) ≡ s.memory k
 
 -- the same at the end of each cycle
-abbrev pub ShowsAll : Names → List State → List Moment → Type 0
+abbrev pub ShowsAll : Names → List Ended → List Moment → Type 0
 ShowsAll n [] [] = Unit {0}
-ShowsAll n (s ∷ ss) (m ∷ ms) = Shows n s m.bits × ShowsAll n ss ms
+ShowsAll n (e ∷ es) (m ∷ ms) = Shows n e.state m.bits × ShowsAll n es ms
 ShowsAll n [] (m ∷ ms) = ⊥
-ShowsAll n (s ∷ ss) [] = ⊥
+ShowsAll n (e ∷ es) [] = ⊥
 
 -- from any state that the bits show, on any readings
-pub record KeepsHistory (n : Names) (gs : List Rung) (ops : List IntOp) : Type 0 where
-  pub each : (s : State) (t : Bits) (rs : List Reading) → Shows n s t → ShowsAll n (history gs s (map (seen n.inputs) rs)) (int.history ops t rs)
+pub record KeepsHistory (n : Names) (p : Project) (ops : List IntOp) : Type 0 where
+  pub each : (s : State) (t : Bits) (rs : List Reading) → Shows n s t → ShowsAll n (history p s (map (seen n) rs)) (int.history ops t rs)

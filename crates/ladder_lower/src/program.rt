@@ -1,6 +1,7 @@
 //! The program of a project.
 
 ghost use Rattle.std.specs.Prelude.{◌≡◌, ◌+◌, ◌≤◌, true, [], ◌∷◌, ◌++◌, length, IfOk, OnOk};
+ghost use Rattle.ladder_tree.specs.BitWords.{all_bit_words};
 ghost use Rattle.ladder_tree.specs.Leaves.{all_leaves, depth_of_all};
 ghost use Rattle.ladder_tree.specs.Names.{names_of, all_well_named};
 ghost use Rattle.ladder_tree.specs.Size.{size_of_all};
@@ -21,15 +22,16 @@ use ladder_tree::names::Names;
 use ladder_tree::project::{Project, Rung};
 use std::alloc::{AllocError, Global};
 
-/// The program of a project, whose operations keep the ladder's history.
+/// The program of a project whose elements all are bit words. Its operations keep the ladder's history.
 pub fn lower(alloc: Global, project: &Project, names: &Names) -> Result<IntProgram, AllocError>
     requires names { names.now ≡ names_of project.now.rungs }
     requires named { all_well_named (all_leaves project.now.rungs) ≡ true }
+    requires bit_words { all_bit_words (all_leaves project.now.rungs) ≡ true }
     requires depth { depth_of_all project.now.rungs ≤ 16 }
     requires size { size_of_all project.now.rungs ≤ 65536 }
     ensures formed { IfOk result IsWellFormed }
     ensures sizes { IfOk result (HasSizes names.now) }
-    ensures keeps { IfOk result (λ p. KeepsHistory names.now project.now.rungs p.ops) }
+    ensures keeps { IfOk result (λ p. KeepsHistory names.now project.now p.ops) }
     ensures cap { IfOk result (λ p. length p.ops ≤ ops_cap project.now.rungs) }
     ensures room { IfOk result HasRoom }
 {

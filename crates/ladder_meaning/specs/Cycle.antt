@@ -1,38 +1,68 @@
 -- A cycle of a ladder, and a history of cycles.
-use Rattle.std.specs.Prelude.{ℕ, ◌+◌, Bool, true, false, List, [], ◌∷◌}
+use Rattle.std.specs.Prelude.{ℕ, ◌+◌, true, false, List, [], ◌∷◌, ℤ, pos, if◌then◌else◌, None}
+use Rattle.std.specs.Str.{bytes_eq}
+use Rattle.ladder_tree.specs.declared.element.Leaf as leaf
+use Rattle.ladder_tree.specs.declared.element.LeafKind.{LeafKind}
+use Rattle.ladder_tree.specs.declared.element.LeafKind.TheVariants.{Timer}
+use Rattle.ladder_tree.specs.declared.element.TimerHow.TheVariants.{Tof}
+use Rattle.ladder_tree.specs.declared.project.Project.{Project}
 use Rattle.ladder_tree.specs.declared.project.Rung.{Rung}
-use Rattle.ladder_meaning.specs.State.{Seen, Now}
-use Rattle.ladder_meaning.specs.Node.{Part, nodes}
+use Rattle.ladder_tree.specs.Leaves.{all_leaves}
+use Rattle.ladder_tree.specs.Names.{names_of}
+use Rattle.ladder_meaning.specs.Element.{Terms}
+use Rattle.ladder_meaning.specs.Node.{nodes}
+use Rattle.ladder_meaning.specs.Numbers.{period}
+use Rattle.ladder_meaning.specs.State.{Seen, State, Now}
 
--- the state between cycles
-pub record State : Type 0 where
-  pub bit : List ℕ → Bool
-  pub memory : ℕ → Bool
+abbrev pub terms : Project → Terms
+terms p = record { cycle = p.cycle; persistent = (names_of p.rungs).persistent }
 
--- all bits are false at the start
-abbrev pub start : State
-start = record { bit = λ name. false; memory = λ k. false }
+abbrev pub start_by : ℕ → LeafKind → List ℕ → ℤ → ℤ
+start_by cycle (Timer Tof timer delay) name other = if bytes_eq timer name then pos (period cycle delay) else other
+start_by cycle _ name other = other
+
+-- a TOF's variable starts at its period, any other at 0
+abbrev pub start_number : ℕ → List leaf.Leaf → List ℕ → ℤ
+start_number cycle [] name = pos 0
+start_number cycle (l ∷ ls) name = start_by cycle l.kind name (start_number cycle ls name)
+
+-- the start with an EEPROM: all bits are false, and nothing waits
+abbrev pub start : Project → (ℕ → ℕ) → State
+start p eeprom = record {
+  bit = λ name. false;
+  number = start_number p.cycle (all_leaves p.rungs);
+  memory = λ k. false;
+  loaded = λ name. false;
+  eeprom = eeprom;
+  pending = None;
+  duty = pos 0;
+}
 
 -- the rungs behind k memories, each on the master relay bit of its moment
-abbrev pub rungs : Seen → List Rung → ℕ → Now → Now
-rungs r [] k s = s
-rungs r (g ∷ gs) k s = rungs r gs (k + (nodes r g.nodes).memories) ((nodes r g.nodes).run k s s.master).now
+abbrev pub rungs : Terms → Seen → List Rung → ℕ → Now → Now
+rungs p r [] k s = s
+rungs p r (g ∷ gs) k s = rungs p r gs (k + (nodes p r g.nodes).memories) ((nodes p r g.nodes).run k s s.master).now
 
-abbrev pub begin : State → Now
-begin s = record { bit = s.bit; memory = s.memory; master = true }
+abbrev pub begin : State → Seen → Now
+begin s r = record { kept = s; master = true; sending = r.sending; writing = r.writing; received = r.received; sent = [] }
 
-abbrev pub end_of : Now → State
-end_of s = record { bit = s.bit; memory = s.memory }
+-- the state at a cycle's end, and the bytes that the cycle sent
+pub record Ended : Type 0 where
+  pub state : State
+  pub sent : List ℕ
 
-abbrev pub cycle : List Rung → State → Seen → State
-cycle gs s r = end_of (rungs r gs 0 (begin s))
+abbrev pub end_of : Now → Ended
+end_of s = record { state = s.kept; sent = s.sent }
 
--- the state after each cycle
-abbrev pub history : List Rung → State → List Seen → List State
-history gs s [] = []
-history gs s (r ∷ rs) = cycle gs s r ∷ history gs (cycle gs s r) rs
+abbrev pub cycle : Project → State → Seen → Ended
+cycle p s r = end_of (rungs (terms p) r p.rungs 0 (begin s r))
+
+-- the end of each cycle
+abbrev pub history : Project → State → List Seen → List Ended
+history p s [] = []
+history p s (r ∷ rs) = cycle p s r ∷ history p (cycle p s r).state rs
 
 -- the last state, or s
-abbrev pub last_of : State → List State → State
+abbrev pub last_of : State → List Ended → State
 last_of s [] = s
-last_of s (t ∷ ts) = last_of t ts
+last_of s (e ∷ es) = last_of e.state es

@@ -4,8 +4,9 @@ use Rattle.ladder_tree.specs.declared.project.Node.{Node}
 use Rattle.ladder_tree.specs.declared.project.Node.TheOpen.{Node-F}
 use Rattle.ladder_tree.specs.declared.project.Node.TheFolds.{fold-Node}
 use Rattle.ladder_tree.specs.Names.{memories}
+use Rattle.ladder_meaning.specs.Device.{Went}
+use Rattle.ladder_meaning.specs.Element.{Terms, element}
 use Rattle.ladder_meaning.specs.State.{Seen, Now}
-use Rattle.ladder_meaning.specs.Element.{Went, element}
 
 -- what a part of a ladder does: how many memories it has, and what it does behind k others
 pub record Part : Type 0 where
@@ -31,13 +32,13 @@ parallel (a ∷ rest) = record {
   };
 }
 
-abbrev pub node_step : Seen → Node-F Part → Part
-node_step r (Node-F.Leaf l) = record { memories = memories l.kind; run = element r l.kind }
-node_step r (Node-F.Series parts) = series parts
-node_step r (Node-F.Parallel parts) = parallel parts
+abbrev pub node_step : Terms → Seen → Node-F Part → Part
+node_step p r (Node-F.Leaf l) = record { memories = memories l.kind; run = element p r l.kind }
+node_step p r (Node-F.Series parts) = series parts
+node_step p r (Node-F.Parallel parts) = parallel parts
 
-abbrev pub node : Seen → Node → Part
-node r = fold-Node Part (node_step r)
+abbrev pub node : Terms → Seen → Node → Part
+node p r = fold-Node Part (node_step p r)
 
-abbrev pub nodes : Seen → List Node → Part
-nodes r ns = series (map (node r) ns)
+abbrev pub nodes : Terms → Seen → List Node → Part
+nodes p r ns = series (map (node p r) ns)

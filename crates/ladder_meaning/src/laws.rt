@@ -1,11 +1,29 @@
 //! Laws of the meaning of ladders, each the contract of a function that does nothing.
 
-ghost use Rattle.std.specs.Prelude.{◌≡◌, List, ◌++◌};
-ghost use Rattle.ladder_tree.specs.declared.project.Rung.{Rung};
-ghost use Rattle.ladder_meaning.specs.Cycle.{State, history, last_of};
-ghost use Rattle.ladder_meaning.specs.State.{Seen};
+ghost use Rattle.std.specs.Prelude.{◌≡◌, ◌≢◌, ◌≤◌, ℕ, true, List, [], ◌++◌, length};
+ghost use Rattle.ladder_tree.specs.declared.project.Project.{Project};
+ghost use Rattle.ladder_meaning.specs.Cycle.{cycle, history, last_of};
+ghost use Rattle.ladder_meaning.specs.Rows.{WorkedRows};
+ghost use Rattle.ladder_meaning.specs.State.{State, Seen};
 
 /// A history goes on from the state that it came to: what a ladder does hangs on nothing but its state and what it sees.
 pub fn history_goes_on()
-    ensures { (gs : List Rung) (s : State) (rs qs : List Seen) → history gs s (rs ++ qs) ≡ history gs s rs ++ history gs (last_of s (history gs s rs)) qs }
+    ensures { (p : Project) (s : State) (rs qs : List Seen) → history p s (rs ++ qs) ≡ history p s rs ++ history p (last_of s (history p s rs)) qs }
+{}
+
+/// A cycle sends at most one byte, and none where the transmitter still sends.
+pub fn a_cycle_sends_one_byte_at_most()
+    ensures one { (p : Project) (s : State) (r : Seen) → length (cycle p s r).sent ≤ 1 }
+    ensures busy { (p : Project) (s : State) (r : Seen) → r.sending ≡ true → (cycle p s r).sent ≡ [] }
+{}
+
+/// A cycle writes at most one byte of the EEPROM, and none where the EEPROM still writes.
+pub fn a_cycle_writes_one_byte_at_most()
+    ensures one { (p : Project) (s : State) (r : Seen) → (address : ℕ) × ((a : ℕ) → a ≢ address → (cycle p s r).state.eeprom a ≡ s.eeprom a) }
+    ensures busy { (p : Project) (s : State) (r : Seen) → r.writing ≡ true → (a : ℕ) → (cycle p s r).state.eeprom a ≡ s.eeprom a }
+{}
+
+/// What small ladders do, cycle by cycle.
+pub fn worked_rows()
+    ensures { WorkedRows }
 {}

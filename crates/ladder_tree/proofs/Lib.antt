@@ -1,2 +1,4 @@
+pub mod BitWordLemmas
 pub mod FirstLemmas
+pub mod FoldLemmas
 pub mod NameLemmas

@@ -1,5 +1,5 @@
 -- Induction over nodes, by lists of nodes.
-use Rattle.std.specs.Prelude.{◌≡◌, List, [], ◌∷◌, map, refl}
+use Rattle.std.specs.Prelude.{◌≡◌, List, [], ◌∷◌, map}
 use Rattle.std.proofs.Common.{subst, sym}
 use Rattle.ladder_tree.specs.declared.element.Leaf as leaf
 use Rattle.ladder_tree.specs.declared.project.Node.{Node, Leaf, Series, Parallel}

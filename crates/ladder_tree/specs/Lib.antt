@@ -1,3 +1,6 @@
+pub mod BitWords
+pub mod Fault
+pub mod Forms
 pub mod Induct
 pub mod Leaves
 pub mod Names

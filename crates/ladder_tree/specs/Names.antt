@@ -1,10 +1,13 @@
 -- The names of a project: each list holds the names of a kind by first appearance.
-use Rattle.std.specs.Prelude.{ℕ, ◌+◌, Bool, true, false, not, ◌&&◌, ◌||◌, ◌==◌, List, [], ◌∷◌, ◌++◌, length, nat_eq, nat_le, slice_index_or, filter, if◌then◌else◌}
+use Rattle.std.specs.Prelude.{ℕ, zero, suc, ◌+◌, Bool, true, false, not, ◌&&◌, ◌||◌, ◌==◌, List, [], ◌∷◌, ◌++◌, length, nat_eq, nat_le, slice_index_or, filter, if◌then◌else◌}
+use Rattle.std.specs.Fmt.{decimal}
 use Rattle.std.specs.List.{list_any, list_all}
 use Rattle.std.specs.Str.{bytes_eq}
 use Rattle.ladder_tree.specs.declared.element.Leaf as leaf
 use Rattle.ladder_tree.specs.declared.element.LeafKind.{LeafKind}
-use Rattle.ladder_tree.specs.declared.element.LeafKind.TheVariants.{Contacts, Coil, Osr, Osf, Counter, Shift}
+use Rattle.ladder_tree.specs.declared.element.LeafKind.TheVariants.{Contacts, Coil, Osr, Osf, Timer, Counter, Reset, Move, Math, Compare, Shift, Table, ReadAdc, SetPwm, Recv, Send, Persist, Linear, Formatted}
+use Rattle.ladder_tree.specs.declared.element.Operand.{Operand}
+use Rattle.ladder_tree.specs.declared.element.Operand.TheVariants.{Var, Num}
 use Rattle.ladder_tree.specs.declared.project.Rung.{Rung}
 use Rattle.ladder_tree.specs.declared.names.Names.{Names}
 use Rattle.ladder_tree.specs.Leaves.{all_leaves}
@@ -47,10 +50,52 @@ bit_names (Contacts name neg) = name ∷ []
 bit_names (Coil name mode) = name ∷ []
 bit_names _ = []
 
+abbrev pub operand_names : Operand → List (List ℕ)
+operand_names (Var name) = name ∷ []
+operand_names (Num n) = []
+
+-- name0, name1 and so on, so many
+abbrev pub numbered_names : List ℕ → ℕ → List (List ℕ)
+numbered_names name zero = []
+numbered_names name (suc k) = numbered_names name k ++ (name ++ decimal k) ∷ []
+
+-- the variables that an element names, from left to right
+abbrev pub variable_names : LeafKind → List (List ℕ)
+variable_names (Timer how name delay) = name ∷ []
+variable_names (Counter how name max) = name ∷ []
+variable_names (Reset name) = name ∷ []
+variable_names (Move dest src) = dest ∷ operand_names src
+variable_names (Math how dest a b) = dest ∷ (operand_names a ++ operand_names b)
+variable_names (Compare how a b) = operand_names a ++ operand_names b
+variable_names (Shift name places) = numbered_names name places
+variable_names (Table dest index as_text values) = dest ∷ operand_names index
+variable_names (ReadAdc name) = name ∷ []
+variable_names (SetPwm name hz) = name ∷ []
+variable_names (Recv name) = name ∷ []
+variable_names (Send name) = name ∷ []
+variable_names (Persist name) = name ∷ []
+variable_names (Linear dest index points) = dest ∷ operand_names index
+variable_names (Formatted name text) = name ∷ []
+variable_names _ = []
+
+-- the variable that an element reads an analog input into
+abbrev pub analog_names : LeafKind → List (List ℕ)
+analog_names (ReadAdc name) = name ∷ []
+analog_names _ = []
+
+-- the variable that an element keeps in the EEPROM
+abbrev pub persistent_names : LeafKind → List (List ℕ)
+persistent_names (Persist name) = name ∷ []
+persistent_names _ = []
+
+-- all that elements name, in file order
+abbrev pub all_named : (LeafKind → List (List ℕ)) → List leaf.Leaf → List (List ℕ)
+all_named names [] = []
+all_named names (l ∷ ls) = names l.kind ++ all_named names ls
+
 -- the bits that elements name, in file order
 abbrev pub all_bits : List leaf.Leaf → List (List ℕ)
-all_bits [] = []
-all_bits (l ∷ ls) = bit_names l.kind ++ all_bits ls
+all_bits ls = all_named bit_names ls
 
 -- all appearances of bits of a kind
 abbrev pub appearances : (List ℕ → Bool) → List leaf.Leaf → List (List ℕ)
@@ -76,15 +121,14 @@ abbrev pub memories_in : List leaf.Leaf → ℕ
 memories_in [] = 0
 memories_in (l ∷ ls) = memories l.kind + memories_in ls
 
--- Contacts and coils are the elements whose names are listed yet, so there are no variables.
 abbrev pub names_of : List Rung → Names
 names_of gs = record {
   inputs = firsts (appearances is_input (all_leaves gs));
   outputs = firsts (appearances is_output (all_leaves gs));
   relays = firsts (appearances is_relay (all_leaves gs));
-  variables = [];
-  analog = [];
-  persistent = [];
+  variables = firsts (all_named variable_names (all_leaves gs));
+  analog = firsts (all_named analog_names (all_leaves gs));
+  persistent = firsts (all_named persistent_names (all_leaves gs));
   memories = memories_in (all_leaves gs);
 }
 

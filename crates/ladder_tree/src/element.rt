@@ -143,6 +143,17 @@ pub enum LeafKind {
     Persist {
         name: Name,
     },
+    /// Points of a piecewise linear function: x, y, x, y and so on.
+    Linear {
+        dest: Name,
+        index: Operand,
+        points: Nums,
+    },
+    /// A text that is sent, with a variable's value in it.
+    Formatted {
+        name: Name,
+        text: Bytes,
+    },
 }
 
 /// An element and the line of the project text that it stands on, counted from 1.

@@ -1,7 +1,8 @@
-//! A ladder project as a tree, and its names in order.
+//! A ladder project as a tree, its names in order, and what can be wrong with it.
 #![tactic(auto)]
 
 pub mod element;
+pub mod fault;
 pub mod leaves;
 pub mod names;
 pub mod project;

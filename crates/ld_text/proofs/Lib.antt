@@ -1,6 +1,10 @@
+pub mod TakenLemmas
+pub mod FedLemmas
 pub mod TreeLemmas
-pub mod PlaceLemmas
+pub mod TreeGrowth
+pub mod SaidLemmas
 pub mod RunLemmas
-pub mod RefusalLemmas
-pub mod ContentLemmas
+pub mod KnowsLemmas
 pub mod VerdictLemmas
+pub mod ReaderLemmas
+pub mod ProjectLemmas

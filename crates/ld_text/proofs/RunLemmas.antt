@@ -1,141 +1,213 @@
--- A text is a project's exactly where its lines lead from the start to rest.
-use Rattle.std.proofs.Common.{◌≡◌, ℕ, ◌+◌, Bool, true, false, cond, List, [], ◌∷◌, ◌++◌, length, take, drop, map, Option, Some, None, option_map, option_and_then, refl, sym, ap, ◌∙◌, arith, take-append-drop}
-use Rattle.std.specs.Str.{bytes_eq}
-use Rattle.std.proofs.lemmas.Slice.Eq.{bytes_eq-Decides}
-use Rattle.ladder_tree.specs.declared.project.Project.{Project}
-use Rattle.ladder_tree.specs.declared.project.Rung.{Rung}
-use Rattle.ladder_tree.specs.declared.project.Node.{Node}
-use Rattle.ld_text.specs.declared.mark.Mark.{Mark}
-use Rattle.ld_text.specs.declared.reader.Frame.{Frame}
-use Rattle.ld_text.specs.Header.{header_lines, project_of}
-use Rattle.ld_text.specs.Marks.{mark_of_line, marks}
-use Rattle.std.proofs.Common.{codes}
-use Rattle.ld_text.specs.Reading.{closed, Place, Between, Inside, State, Above, Below, after_mark, above, step, start, run, at_rest}
-use Rattle.ld_text.specs.Spelling.{spelled}
-use Rattle.ld_text.specs.Text.{IsProject, IsProjectText}
-use Rattle.ld_base.specs.Refusal.{Begins}
-use Rattle.ld_text.proofs.PlaceLemmas.{read, so_far-read, shallow_read, read-spelled}
+-- Bytes take a reader where the lines of the text take it.
+use Rattle.std.proofs.Common.{◌≡◌, ◌≢◌, ℕ, ◌+◌, ◌-◌, ◌^◌, ◌<◌, ◌≤◌, min, Bool, true, false, cond, ltb, eqb, List, [], ◌∷◌, ◌++◌, length, All, Option, Some, None, refl, sym, ap, subst, ◌∙◌, arith, append_assoc, append-nil, length-append, lit≤}
+use Rattle.std.proofs.lemmas.Bool.Decides.{nat_tests}
+use Rattle.std.proofs.lemmas.List.Elements.{All-head, All-tail, All-append, All-nil, All-cons}
+use Rattle.ladder_tree.specs.declared.fault.ProjectFault.{ProjectFault}
+use Rattle.ladder_tree.specs.declared.fault.ProjectFault.TheVariants.{LineTooLong}
+use Rattle.ld_base.specs.Lines.{IsLine, pieces, onto}
+use Rattle.ld_base.proofs.LineLemmas.{pieces-piece, pieces-last}
+use Rattle.ld_line.specs.declared.said.Said.{Said}
+use Rattle.ld_text.specs.declared.form.Form.{Form}
+use Rattle.ld_text.specs.declared.place.Place.{Place}
+use Rattle.ld_text.specs.Lines.{Line, size_of, ended, last_of, open_line, ended_lines, behind_feeds, lines_of}
+use Rattle.ld_text.specs.Place.{said_in, said_at, behind_said, behind, behind_all, start}
+use Rattle.ld_text.specs.Faults.{most_line, most_text, fault_of, fault_at, first_fault, or_else, end_fault}
+use Rattle.ld_text.specs.Text.{early_length}
+use Rattle.ld_text.specs.Reading.{Standing, Taken, Goes, Stops, Mind, Reads, Refuses, taken, taken_as, line_done, pushed, next, fed, fed_byte, first, standing_behind}
+use Rattle.ld_text.proofs.TakenLemmas.{Went, goes, stops, room}
+use Rattle.ld_text.proofs.FedLemmas.{fed_refused}
 
-pub run-append : (n : ℕ) (xs bs : List (List ℕ)) (s t : State) → run n xs s ≡ Some t → run n (xs ++ bs) s ≡ run (n + length xs) bs t
-run-append n [] bs s t h = let e : s ≡ t = cc in let k : n ≡ n + 0 = omega arith in ap (run n bs) e ∙ ap (λ k. run k bs t) k
-run-append n (l ∷ xs) bs s t h = by (step n l s) h (λ u. run-append (n + 1) xs bs u t)
-  where
-    by : (o : Option State) → option_and_then (run (n + 1) xs) o ≡ Some t → ((u : State) → run (n + 1) xs u ≡ Some t → run (n + 1) (xs ++ bs) u ≡ run (n + 1 + length xs) bs t) → option_and_then (run (n + 1) (xs ++ bs)) o ≡ run (n + length (l ∷ xs)) bs t
-    by None h rec = absurd cc
-    by (Some u) h rec = let k : n + 1 + length xs ≡ n + length (l ∷ xs) = omega arith in rec u h ∙ ap (λ k. run k bs t) k
+abbrev pub then : (Standing → Taken) → Taken → Taken
+then k (Goes t) = k t
+then k (Stops f) = Stops f
 
-run-none : (n : ℕ) (xs bs : List (List ℕ)) (s : State) → run n xs s ≡ None → run n (xs ++ bs) s ≡ None
-run-none n [] bs s h = absurd cc
-run-none n (l ∷ xs) bs s h = by (step n l s) h (λ u. run-none (n + 1) xs bs u)
-  where
-    by : (o : Option State) → option_and_then (run (n + 1) xs) o ≡ None → ((u : State) → run (n + 1) xs u ≡ None → run (n + 1) (xs ++ bs) u ≡ None) → option_and_then (run (n + 1) (xs ++ bs)) o ≡ None
-    by None h rec = refl
-    by (Some u) h rec = rec u h
+-- behind lines, of which the first has the number
+abbrev pub run : ℕ → List Line → Standing → Taken
+run n [] s = Goes s
+run n (l ∷ ls) s = then (run (n + 1) ls) (taken n l.bytes (size_of l) s)
 
--- the lines of a body by their marks
-run_marks : (n : ℕ) (ls : List (List ℕ)) (ms : List Mark) (p q : Place) → marks n ls ≡ map Some ms → read ms p ≡ Some q → run n ls (Below p) ≡ Some (Below q)
-run_marks n [] [] p q e h = let s : p ≡ q = cc in ap (λ x. Some (Below x)) s
-run_marks n [] (m ∷ ms) p q e h = absurd cc
-run_marks n (l ∷ ls) [] p q e h = absurd cc
-run_marks n (l ∷ ls) (m ∷ ms) p q e h =
-    let first : mark_of_line n l ≡ Some m = cc in
-    let rest : marks (n + 1) ls ≡ map Some ms = cc in
-    ap (λ o. option_and_then (run (n + 1) ls) (option_map Below (option_and_then (after_mark p) o))) first
-    ∙ by (after_mark p m) h (λ t. run_marks (n + 1) ls ms t q rest)
-  where
-    by : (o : Option Place) → option_and_then (read ms) o ≡ Some q → ((t : Place) → read ms t ≡ Some q → run (n + 1) ls (Below t) ≡ Some (Below q)) → option_and_then (run (n + 1) ls) (option_map Below o) ≡ Some (Below q)
-    by None h rec = absurd cc
-    by (Some t) h rec = rec t h
+-- texts in pieces
 
-pub record HasMarks (n : ℕ) (ls : List (List ℕ)) (p q : Place) : Type 0 where
-  pub found : List Mark
-  pub lines : marks n ls ≡ map Some found
-  pub reads : read found p ≡ Some q
-
-marks_run : (n : ℕ) (ls : List (List ℕ)) (p q : Place) → run n ls (Below p) ≡ Some (Below q) → HasMarks n ls p q
-marks_run n [] p q h = let s : p ≡ q = cc in record { found = []; lines = refl; reads = ap Some s }
-marks_run n (l ∷ ls) p q h = by (mark_of_line n l) refl h (λ t. marks_run (n + 1) ls t q)
-  where
-    more : (m : Mark) → mark_of_line n l ≡ Some m → (o : Option Place) → after_mark p m ≡ o → option_and_then (run (n + 1) ls) (option_map Below o) ≡ Some (Below q) → ((t : Place) → run (n + 1) ls (Below t) ≡ Some (Below q) → HasMarks (n + 1) ls t q) → HasMarks n (l ∷ ls) p q
-    more m e None a h rec = absurd cc
-    more m e (Some t) a h rec =
-        let r = rec t h in
-        record { found = m ∷ r.found; lines = ap (λ o. o ∷ marks (n + 1) ls) e ∙ ap (λ x. Some m ∷ x) r.lines; reads = ap (option_and_then (read r.found)) a ∙ r.reads }
-
-    by : (o : Option Mark) → mark_of_line n l ≡ o → option_and_then (run (n + 1) ls) (option_map Below (option_and_then (after_mark p) o)) ≡ Some (Below q) → ((t : Place) → run (n + 1) ls (Below t) ≡ Some (Below q) → HasMarks (n + 1) ls t q) → HasMarks n (l ∷ ls) p q
-    by None e h rec = absurd cc
-    by (Some m) e h rec = more m e (after_mark p m) refl h rec
-
--- the lines of a header
-pub record HasHeader (n : ℕ) (hs ls : List (List ℕ)) (t : State) : Type 0 where
+pub record Pieces (ps : List (List ℕ)) : Type 0 where
+  pub head : List ℕ
   pub rest : List (List ℕ)
-  pub lines : ls ≡ hs ++ rest
-  pub reads : run (n + length hs) rest (Below (Between [])) ≡ Some t
+  pub is : ps ≡ head ∷ rest
 
-header_run : (n : ℕ) (hs ls : List (List ℕ)) (q : Place) → run n ls (above hs) ≡ Some (Below q) → HasHeader n hs ls (Below q)
-header_run n [] ls q h = let k : n ≡ n + 0 = omega arith in record { rest = ls; lines = refl; reads = ap (λ k. run k ls (Below (Between []))) (sym k) ∙ h }
-header_run n (h ∷ hs) [] q e = absurd cc
-header_run n (h ∷ hs) (l ∷ ls) q e = by (bytes_eq l h) refl e (header_run (n + 1) hs ls q)
+onto_some : (x : ℕ) (ps : List (List ℕ)) → Pieces (onto x ps)
+onto_some x [] = record { head = x ∷ []; rest = []; is = refl }
+onto_some x (p ∷ ps) = record { head = x ∷ p; rest = ps; is = refl }
+
+pub pieces_some : (text : List ℕ) → Pieces (pieces 10 text)
+pieces_some [] = record { head = []; rest = []; is = refl }
+pieces_some (x ∷ xs) = by (eqb x 10)
   where
-    by : (b : Bool) → bytes_eq l h ≡ b → option_and_then (run (n + 1) ls) (cond b (Some (above hs)) None) ≡ Some (Below q) → (run (n + 1) ls (above hs) ≡ Some (Below q) → HasHeader (n + 1) hs ls (Below q)) → HasHeader n (h ∷ hs) (l ∷ ls) (Below q)
-    by true t e rec =
-        let r = rec e in
-        let same : l ≡ h = (bytes_eq-Decides l h).0 t in
-        let k : n + 1 + length hs ≡ n + length (h ∷ hs) = omega arith in
-        record { rest = r.rest; lines = ap (λ x. x ∷ ls) same ∙ ap (λ x. h ∷ x) r.lines; reads = ap (λ k. run k r.rest (Below (Between []))) (sym k) ∙ r.reads }
-    by false t e rec = absurd cc
+    by : (b : Bool) → Pieces (cond b ([] ∷ pieces 10 xs) (onto x (pieces 10 xs)))
+    by true = record { head = []; rest = pieces 10 xs; is = refl }
+    by false = onto_some x (pieces 10 xs)
 
--- what leads to rest is a project's text
-pub is_project : (ls : List (List ℕ)) (gs : List Rung) → run 1 ls start ≡ Some (at_rest gs) → IsProject ls (project_of gs)
-is_project ls gs h =
-    let top = header_run 1 header_lines ls (Between gs) h in
-    let body = marks_run 11 top.rest (Between []) (Between gs) top.reads in
-    let told : spelled gs ≡ body.found = so_far-read body.found (Between []) (Between gs) body.reads in
+ended-cons : (p : List ℕ) (text : List ℕ) → ended (p ∷ pieces 10 text) ≡ record { bytes = p; is_ended = true } ∷ ended (pieces 10 text)
+ended-cons p text = let q = pieces_some text in ap (λ ps. ended (p ∷ ps)) q.is ∙ sym (ap (λ ps. record { bytes = p; is_ended = true } ∷ ended ps) q.is)
+
+last_of-cons : (p : List ℕ) (text : List ℕ) → last_of (p ∷ pieces 10 text) ≡ last_of (pieces 10 text)
+last_of-cons p text = let q = pieces_some text in ap (λ ps. last_of (p ∷ ps)) q.is ∙ sym (ap last_of q.is)
+
+-- the first piece of a text that begins with bytes of a line
+pub record Front (x : List ℕ) (ps : List (List ℕ)) : Type 0 where
+  pub more : List ℕ
+  pub rest : List (List ℕ)
+  pub is : ps ≡ (x ++ more) ∷ rest
+
+front : (x bs : List ℕ) → IsLine x → Front x (pieces 10 (x ++ bs))
+front [] bs h = let q = pieces_some bs in record { more = q.head; rest = q.rest; is = q.is }
+front (x ∷ xs) bs h =
+    let q = front xs bs (All-tail (λ y. y ≢ 10) x xs h) in
+    record { more = q.more; rest = q.rest; is = by (eqb x 10) (no x (All-head (λ y. y ≢ 10) x xs h)) ∙ ap (onto x) q.is }
+  where
+    no : (x : ℕ) → x ≢ 10 → eqb x 10 ≡ false
+    no x h = grind (arith, nat_tests)
+
+    by : (b : Bool) → b ≡ false → cond b ([] ∷ pieces 10 (xs ++ bs)) (onto x (pieces 10 (xs ++ bs))) ≡ onto x (pieces 10 (xs ++ bs))
+    by true h = absurd cc
+    by false h = refl
+
+-- what is known early of lines and of what stands behind them
+abbrev pub early_run : Taken → ℕ → List ℕ → Option ProjectFault
+early_run (Stops f) k rest = Some f
+early_run (Goes t) k rest = early_length k rest
+
+pub record Far (n : ℕ) (text : List ℕ) (s : Standing) (m : ℕ) (l : List ℕ) (t : Standing) : Type 0 where
+  pub lines : run n (ended_lines text) s ≡ Goes t
+  pub rest : behind_feeds text ≡ l
+  pub short : length l ≤ 512
+  pub number : m ≡ n + length (ended_lines text)
+  pub few : m ≤ t.place.bytes + 1
+  pub within : t.place.bytes ≤ most_text
+
+abbrev pub FedTo : ℕ → List ℕ → Standing → Mind → Type 0
+FedTo n text s (Reads m l t) = Far n text s m l t
+FedTo n text s (Refuses f) = early_run (run n (ended_lines text) s) (n + length (ended_lines text)) (behind_feeds text) ≡ Some f
+
+-- a first line more
+more_line : (n : ℕ) (p bs : List ℕ) (s t : Standing) (m : Mind) → IsLine p → taken n p (length p + 1) s ≡ Goes t → FedTo (n + 1) bs t m → FedTo n (p ++ 10 ∷ bs) s m
+more_line n p bs s t (Reads m l u) clean h far =
+    let ps = pieces-piece 10 p bs clean in
+    let lines = ap ended ps ∙ ended-cons p bs in
     record {
-      header = ap (take 10) top.lines;
-      body = ap (λ x. marks 11 (drop 10 x)) top.lines ∙ body.lines ∙ ap (map Some) (sym told);
-      depth = shallow_read body.found (Between []) (Between gs) (omega arith) body.reads;
-      settings = refl;
+      lines = ap (λ ls. run n ls s) lines ∙ ap (then (run (n + 1) (ended_lines bs))) h ∙ far.lines;
+      rest = ap last_of ps ∙ last_of-cons p bs ∙ far.rest;
+      short = far.short;
+      number = let k : length (ended_lines (p ++ 10 ∷ bs)) ≡ length (ended_lines bs) + 1 = ap length lines ∙ add_one (ended_lines bs) in omega (arith, far.number);
+      few = far.few;
+      within = far.within;
     }
+  where
+    add_one : (ls : List Line) → length (record { bytes = p; is_ended = true } ∷ ls) ≡ length ls + 1
+    add_one ls = omega arith
+more_line n p bs s t (Refuses f) clean h far =
+    let ps = pieces-piece 10 p bs clean in
+    let lines = ap ended ps ∙ ended-cons p bs in
+    let k : n + length (ended_lines (p ++ 10 ∷ bs)) ≡ n + 1 + length (ended_lines bs) = add_one (ended_lines bs) (ap length lines) in
+    ap (λ ls. early_run (run n ls s) (n + length (ended_lines (p ++ 10 ∷ bs))) (behind_feeds (p ++ 10 ∷ bs))) lines
+    ∙ ap (λ x. early_run (then (run (n + 1) (ended_lines bs)) x) (n + length (ended_lines (p ++ 10 ∷ bs))) (behind_feeds (p ++ 10 ∷ bs))) h
+    ∙ ap (λ x. early_run (run (n + 1) (ended_lines bs) t) x (behind_feeds (p ++ 10 ∷ bs))) k
+    ∙ ap (λ x. early_run (run (n + 1) (ended_lines bs) t) (n + 1 + length (ended_lines bs)) x) (ap last_of ps ∙ last_of-cons p bs)
+    ∙ far
+  where
+    add_one : (ls : List Line) → length (ended_lines (p ++ 10 ∷ bs)) ≡ length (record { bytes = p; is_ended = true } ∷ ls) → n + length (ended_lines (p ++ 10 ∷ bs)) ≡ n + 1 + length ls
+    add_one ls e = omega arith
 
--- a project's text leads to rest
-pub leads_to_rest : (ls : List (List ℕ)) (p : Project) → IsProject ls p → run 1 ls start ≡ Some (at_rest p.rungs)
-leads_to_rest ls p h =
-    ap (λ x. run 1 x start) (sym (take-append-drop 10 ls) ∙ ap (λ x. x ++ drop 10 ls) h.header)
-    ∙ run_marks 11 (drop 10 ls) (spelled p.rungs) (Between []) (Between p.rungs) h.body (read-spelled p.rungs [] h.depth)
+-- a first line that stops
+stopped_line : (n : ℕ) (p bs : List ℕ) (s : Standing) (f : ProjectFault) → IsLine p → taken n p (length p + 1) s ≡ Stops f → FedTo n (p ++ 10 ∷ bs) s (Refuses f)
+stopped_line n p bs s f clean h =
+    let lines = ap ended (pieces-piece 10 p bs clean) ∙ ended-cons p bs in
+    ap (λ ls. early_run (run n ls s) (n + length (ended_lines (p ++ 10 ∷ bs))) (behind_feeds (p ++ 10 ∷ bs))) lines
+    ∙ ap (λ x. early_run (then (run (n + 1) (ended_lines bs)) x) (n + length (ended_lines (p ++ 10 ∷ bs))) (behind_feeds (p ++ 10 ∷ bs))) h
 
--- from wherever a reader stands some lines lead to rest
-pub record CanRest (n : ℕ) (s : State) : Type 0 where
-  pub more : List (List ℕ)
-  pub rungs : List Rung
-  pub rests : run n more s ≡ Some (at_rest rungs)
+over : (x y : List ℕ) → 512 < length x → ltb 512 (length (x ++ y)) ≡ true
+over x y h = by (length (x ++ y)) (omega (arith, length-append x y))
+  where
+    by : (k : ℕ) → 512 < k → ltb 512 k ≡ true
+    by k h = grind (arith, nat_tests)
 
-inside_can_rest : (n : ℕ) (gs : List Rung) (fs : List Frame) (ns : List Node) → CanRest n (Below (Inside gs fs ns))
-inside_can_rest n gs [] ns = record { more = codes "END" ∷ []; rungs = gs ++ record { nodes = ns } ∷ []; rests = refl }
-inside_can_rest n gs (f ∷ fs) ns =
-    let r = inside_can_rest (n + 1) gs fs (f.nodes ++ closed f.circuit ns ∷ []) in
-    record { more = codes "END" ∷ r.more; rungs = r.rungs; rests = r.rests }
+-- a first line that is too long
+long_line : (n : ℕ) (x bs : List ℕ) (s : Standing) → IsLine x → 512 < length x → FedTo n (x ++ bs) s (Refuses (LineTooLong n))
+long_line n x bs s clean h =
+    let q = front x bs clean in
+    ap (λ ps. early_run (run n (ended ps) s) (n + length (ended ps)) (last_of ps)) q.is ∙ by (x ++ q.more) q.rest (over x q.more h)
+  where
+    by : (y : List ℕ) (rest : List (List ℕ)) → ltb 512 (length y) ≡ true → early_run (run n (ended (y ∷ rest)) s) (n + length (ended (y ∷ rest))) (last_of (y ∷ rest)) ≡ Some (LineTooLong n)
+    by y [] e = let k : n + 0 ≡ n = omega arith in ap (λ b. cond b (Some (LineTooLong (n + 0))) None) e ∙ ap (λ k. Some (LineTooLong k)) k
+    by y (r ∷ rs) e = rw e refl
 
-above_can_rest : (n : ℕ) (hs : List (List ℕ)) → run n hs (above hs) ≡ Some (at_rest [])
-above_can_rest n [] = refl
-above_can_rest n (h ∷ hs) =
-    ap (λ b. option_and_then (run (n + 1) hs) (cond b (Some (above hs)) None)) ((bytes_eq-Decides h h).1 refl)
-    ∙ above_can_rest (n + 1) hs
+clean_one : (p : List ℕ) (b : ℕ) → IsLine p → b ≢ 10 → IsLine (p ++ b ∷ [])
+clean_one p b h g = All-append (λ x. x ≢ 10) p (b ∷ []) h (All-cons (λ x. x ≢ 10) b [] g (All-nil (λ x. x ≢ 10)))
 
-pub can_rest : (n : ℕ) (s : State) → CanRest n s
-can_rest n (Above h hs) = record { more = h ∷ hs; rungs = []; rests = above_can_rest n (h ∷ hs) }
-can_rest n (Below (Between gs)) = record { more = []; rungs = gs; rests = refl }
-can_rest n (Below (Inside gs fs ns)) = inside_can_rest n gs fs ns
+-- the number stays that of the line
+next_is : (n k : ℕ) → n ≤ k + 1 → k ≤ most_text → next n ≡ n + 1
+next_is n k h g = omega arith
 
--- lines that lead somewhere begin a project's text
-pub begins : (ls : List (List ℕ)) (s : State) → run 1 ls start ≡ Some s → Begins IsProjectText ls
-begins ls s h =
-    let r = can_rest (1 + length ls) s in
-    (r.more, (project_of r.rungs, is_project (ls ++ r.more) r.rungs (run-append 1 ls r.more start s h ∙ r.rests)))
+pub fed_to : (bs p : List ℕ) (n : ℕ) (s : Standing) → IsLine p → length p ≤ 512 → n ≤ s.place.bytes + 1 → s.place.bytes ≤ most_text → FedTo n (p ++ bs) s (fed (Reads n p s) bs)
+fed_to [] p n s clean short few within =
+    let ps = ap (pieces 10) (append-nil p) ∙ pieces-last 10 p clean in
+    let k : n ≡ n + 0 = omega arith in
+    record { lines = ap (λ x. run n (ended x) s) ps; rest = ap last_of ps; short = short; number = k ∙ sym (ap (λ x. n + length (ended x)) ps); few = few; within = within }
+fed_to (b ∷ bs) p n s clean short few within = by (eqb b 10) refl (λ q t. fed_to bs q (n + 1) t) (λ q. fed_to bs q n s)
+  where
+    ten : (b : ℕ) → eqb b 10 ≡ true → b ≡ 10
+    ten b h = grind (arith, nat_tests)
 
--- and lines that lead nowhere don't
-pub begins_none : (ls : List (List ℕ)) → run 1 ls start ≡ None → Begins IsProjectText ls → ⊥
-begins_none ls h b =
-    let none = run-none 1 ls b.0 start h in
-    let some = leads_to_rest (ls ++ b.0) b.1.0 b.1.1 in
-    absurd cc
+    no_ten : (b : ℕ) → eqb b 10 ≡ false → b ≢ 10
+    no_ten b h = grind (arith, nat_tests)
+
+    at_feed : (o : Taken) → taken n p (length p + 1) s ≡ o → ((q : List ℕ) (t : Standing) → IsLine q → length q ≤ 512 → n + 1 ≤ t.place.bytes + 1 → t.place.bytes ≤ most_text → FedTo (n + 1) (q ++ bs) t (fed (Reads (n + 1) q t) bs)) → FedTo n (p ++ 10 ∷ bs) s (fed (line_done n o) bs)
+    at_feed (Stops f) e rec = subst (FedTo n (p ++ 10 ∷ bs) s) (sym (fed_refused f bs)) (stopped_line n p bs s f clean e)
+    at_feed (Goes t) e rec =
+        let w = goes n p (length p + 1) s t e in
+        let r = room s.place n p (length p + 1) w.form (ap (fault_of s.place n p (length p + 1)) (sym w.said) ∙ w.faultless) in
+        let bytes : t.place.bytes ≡ s.place.bytes + (length p + 1) = ap (λ x. x.place.bytes) w.is in
+        let numbered = next_is n s.place.bytes few within in
+        more_line n p bs s t (fed (Reads (next n) [] t) bs) clean e
+        (subst (λ k. FedTo (n + 1) bs t (fed (Reads k [] t) bs)) (sym numbered) (rec [] t (All-nil (λ x. x ≢ 10)) (lit≤ tt) (omega arith) (omega (arith, r.0))))
+
+    at_other : (c : Bool) → ltb (length p) 512 ≡ c → b ≢ 10 → ((q : List ℕ) → IsLine q → length q ≤ 512 → n ≤ s.place.bytes + 1 → s.place.bytes ≤ most_text → FedTo n (q ++ bs) s (fed (Reads n q s) bs)) → FedTo n (p ++ b ∷ bs) s (fed (cond c (Reads n (p ++ b ∷ []) s) (Refuses (LineTooLong n))) bs)
+    at_other true e g rec = subst (λ x. FedTo n x s (fed (Reads n (p ++ b ∷ []) s) bs)) (append_assoc p (b ∷ []) bs) (rec (p ++ b ∷ []) (clean_one p b clean g) (grow (length p) (length (p ++ b ∷ [])) e (length-append p (b ∷ []))) few within)
+      where
+        grow : (k m : ℕ) → ltb k 512 ≡ true → m ≡ k + 1 → m ≤ 512
+        grow k m h e = grind (arith, nat_tests)
+    at_other false e g rec =
+        subst (FedTo n (p ++ b ∷ bs) s) (sym (fed_refused (LineTooLong n) bs))
+        (subst (λ x. FedTo n x s (Refuses (LineTooLong n))) (append_assoc p (b ∷ []) bs) (long_line n (p ++ b ∷ []) bs s (clean_one p b clean g) (full (length p) (length (p ++ b ∷ [])) e (length-append p (b ∷ [])))))
+      where
+        full : (k m : ℕ) → ltb k 512 ≡ false → m ≡ k + 1 → 512 < m
+        full k m h e = grind (arith, nat_tests)
+
+    by : (c : Bool) → eqb b 10 ≡ c → ((q : List ℕ) (t : Standing) → IsLine q → length q ≤ 512 → n + 1 ≤ t.place.bytes + 1 → t.place.bytes ≤ most_text → FedTo (n + 1) (q ++ bs) t (fed (Reads (n + 1) q t) bs)) → ((q : List ℕ) → IsLine q → length q ≤ 512 → n ≤ s.place.bytes + 1 → s.place.bytes ≤ most_text → FedTo n (q ++ bs) s (fed (Reads n q s) bs)) → FedTo n (p ++ b ∷ bs) s (fed (cond c (line_done n (taken n p (length p + 1) s)) (pushed n p s b)) bs)
+    by true e line rec = subst (λ x. FedTo n (p ++ x ∷ bs) s (fed (line_done n (taken n p (length p + 1) s)) bs)) (sym (ten b e)) (at_feed (taken n p (length p + 1) s) refl line)
+    by false e line rec = at_other (ltb (length p) 512) refl (no_ten b e) rec
+
+-- the faults of lines
+
+place_behind : (number : ℕ) (l : Line) (s t : Standing) → Went number l.bytes (size_of l) s t → behind s.place number l ≡ t.place
+place_behind number l s t w = ap (behind_said s.place (size_of l)) w.said ∙ sym (ap (λ x. x.place) w.is)
+
+pub run_goes : (n : ℕ) (ls : List Line) (s t : Standing) → run n ls s ≡ Goes t → (first_fault s.place n ls ≡ None) × (behind_all s.place n ls ≡ t.place)
+run_goes n [] s t h = let e : s ≡ t = cc in (refl, ap (λ x. x.place) e)
+run_goes n (l ∷ ls) s t h = by (taken n l.bytes (size_of l) s) refl h (λ u. run_goes (n + 1) ls u t)
+  where
+    by : (o : Taken) → taken n l.bytes (size_of l) s ≡ o → then (run (n + 1) ls) o ≡ Goes t → ((u : Standing) → run (n + 1) ls u ≡ Goes t → (first_fault u.place (n + 1) ls ≡ None) × (behind_all u.place (n + 1) ls ≡ t.place)) → (first_fault s.place n (l ∷ ls) ≡ None) × (behind_all s.place n (l ∷ ls) ≡ t.place)
+    by (Stops f) e h rec = absurd cc
+    by (Goes u) e h rec =
+        let w = goes n l.bytes (size_of l) s u e in
+        let p = place_behind n l s u w in
+        let r = rec u h in
+        (ap (λ o. or_else o (first_fault (behind s.place n l) (n + 1) ls)) w.faultless ∙ ap (λ p. first_fault p (n + 1) ls) p ∙ r.0, ap (λ p. behind_all p (n + 1) ls) p ∙ r.1)
+
+pub run_stops : (n : ℕ) (ls : List Line) (s : Standing) (f : ProjectFault) → run n ls s ≡ Stops f → first_fault s.place n ls ≡ Some f
+run_stops n [] s f h = absurd cc
+run_stops n (l ∷ ls) s f h = by (taken n l.bytes (size_of l) s) refl h (λ u. run_stops (n + 1) ls u f)
+  where
+    by : (o : Taken) → taken n l.bytes (size_of l) s ≡ o → then (run (n + 1) ls) o ≡ Stops f → ((u : Standing) → run (n + 1) ls u ≡ Stops f → first_fault u.place (n + 1) ls ≡ Some f) → first_fault s.place n (l ∷ ls) ≡ Some f
+    by (Stops g) e h rec = let same : g ≡ f = cc in ap (λ o. or_else o (first_fault (behind s.place n l) (n + 1) ls)) (stops n l.bytes (size_of l) s g e) ∙ ap Some same
+    by (Goes u) e h rec =
+        let w = goes n l.bytes (size_of l) s u e in
+        ap (λ o. or_else o (first_fault (behind s.place n l) (n + 1) ls)) w.faultless ∙ ap (λ p. first_fault p (n + 1) ls) (place_behind n l s u w) ∙ rec u h

@@ -6,12 +6,12 @@ use Rattle.ladder_tree.specs.declared.project.Node.TheOpen.{Node-F}
 use Rattle.ladder_tree.specs.declared.project.Node.TheFolds.{fold-roll-Node}
 use Rattle.ladder_tree.specs.declared.project.Node.TheVariants.{rolls-Leaf, rolls-Series, rolls-Parallel}
 use Rattle.ladder_tree.specs.Leaves.{leaves, leaves_in, leaves_step, depth_of, depth_in, depth_step}
-use Rattle.ladder_tree.specs.Size.{size_of, size_in, size_step}
-use Rattle.ld_text.specs.declared.mark.Circuit.{Circuit}
-use Rattle.ld_text.specs.declared.mark.Circuit.TheVariants as circuit
-use Rattle.ld_text.specs.declared.mark.Mark.{Mark}
-use Rattle.ld_text.specs.declared.mark.Mark.TheVariants as line
+use Rattle.ld_line.specs.declared.rungs.Circuit.{Circuit}
+use Rattle.ld_line.specs.declared.rungs.Circuit.TheVariants as circuit
+use Rattle.ld_text.specs.declared.form.Mark.{Mark}
+use Rattle.ld_text.specs.declared.form.Mark.TheVariants as line
 use Rattle.ld_text.specs.Reading.{closed}
+use Rattle.ladder_tree.specs.Forms.{forms_of, forms_in, forms_step}
 use Rattle.ld_text.specs.Spelling.{spelled_node, spelled_nodes, spelling_step}
 
 pub spelled-Leaf : (l : leaf.Leaf) → spelled_node (Leaf l) ≡ line.Element l ∷ []
@@ -28,12 +28,12 @@ pub depth-closed : (c : Circuit) (ns : List Node) → depth_of (closed c ns) ≡
 depth-closed circuit.Series ns = ap depth_of (sym (rolls-Series ns)) ∙ fold-roll-Node ℕ depth_step (Node-F.Series ns)
 depth-closed circuit.Parallel ns = ap depth_of (sym (rolls-Parallel ns)) ∙ fold-roll-Node ℕ depth_step (Node-F.Parallel ns)
 
-pub size-Leaf : (l : leaf.Leaf) → size_of (Leaf l) ≡ 1
-size-Leaf l = ap size_of (sym (rolls-Leaf l)) ∙ fold-roll-Node ℕ size_step (Node-F.Leaf l)
+pub forms-Leaf : (l : leaf.Leaf) → forms_of (Leaf l) ≡ 0
+forms-Leaf l = ap forms_of (sym (rolls-Leaf l)) ∙ fold-roll-Node ℕ forms_step (Node-F.Leaf l)
 
-pub size-closed : (c : Circuit) (ns : List Node) → size_of (closed c ns) ≡ 2 + size_in ns
-size-closed circuit.Series ns = ap size_of (sym (rolls-Series ns)) ∙ fold-roll-Node ℕ size_step (Node-F.Series ns)
-size-closed circuit.Parallel ns = ap size_of (sym (rolls-Parallel ns)) ∙ fold-roll-Node ℕ size_step (Node-F.Parallel ns)
+pub forms-closed : (c : Circuit) (ns : List Node) → forms_of (closed c ns) ≡ 1 + forms_in ns
+forms-closed circuit.Series ns = ap forms_of (sym (rolls-Series ns)) ∙ fold-roll-Node ℕ forms_step (Node-F.Series ns)
+forms-closed circuit.Parallel ns = ap forms_of (sym (rolls-Parallel ns)) ∙ fold-roll-Node ℕ forms_step (Node-F.Parallel ns)
 
 pub leaves-Leaf : (l : leaf.Leaf) → leaves (Leaf l) ≡ l ∷ []
 leaves-Leaf l = ap leaves (sym (rolls-Leaf l)) ∙ fold-roll-Node (List leaf.Leaf) leaves_step (Node-F.Leaf l)

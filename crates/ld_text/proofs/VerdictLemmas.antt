@@ -1,76 +1,204 @@
--- A text has one verdict.
-use Rattle.std.proofs.Common.{◌≡◌, ℕ, ◌+◌, ◌-◌, ◌<◌, ◌≤◌, Bool, true, false, ltb, List, ◌++◌, length, take, drop, ◌⊎◌, inl, inr, sym, ap, subst, ◌∙◌, arith, append_assoc, length-take, take-append-drop}
+-- The answer of a reader is the verdict of the text.
+use Rattle.std.proofs.Common.{◌≡◌, ◌≢◌, ℕ, ◌+◌, ◌<◌, ◌≤◌, Bool, true, false, cond, ltb, ◌&&◌, List, [], ◌∷◌, ◌++◌, length, map, All, Option, Some, None, is_some, refl, sym, ap, subst, ◌∙◌, arith, append_assoc, length-append, lit≤, take, length-take}
+use Rattle.std.specs.List.{list_all}
 use Rattle.std.proofs.lemmas.Bool.Decides.{nat_tests}
-use Rattle.std.proofs.lemmas.List.{take-take, take_all}
+use Rattle.std.proofs.lemmas.List.{take_all}
+use Rattle.std.proofs.lemmas.List.Elements.{All-nil}
+use Rattle.chip_tables.specs.declared.target.Target.{Target}
+use Rattle.ladder_tree.specs.declared.element.Leaf as leaf
+use Rattle.ladder_tree.specs.declared.fault.ProjectFault.{ProjectFault}
+use Rattle.ladder_tree.specs.declared.fault.ProjectFault.TheVariants.{LineTooLong}
 use Rattle.ladder_tree.specs.declared.project.Project.{Project}
-use Rattle.ld_base.specs.Lines.{lines}
-use Rattle.ld_base.specs.Refusal.{Begins, IsRefusedAt}
-use Rattle.ld_text.specs.Header.{project_of}
-use Rattle.ld_text.specs.Text.{IsProject, IsProjectText, IsReadAs, IsTextRefusedAt, judged, is_over}
-use Rattle.ld_text.proofs.RunLemmas.{leads_to_rest}
+use Rattle.ladder_tree.specs.declared.project.Rung.{Rung}
+use Rattle.ladder_tree.specs.Leaves.{all_leaves}
+use Rattle.ld_line.specs.Range.{is_read_kind}
+use Rattle.ld_line.specs.declared.said.Said.TheVariants.{Is}
+use Rattle.ld_text.specs.declared.form.Form.{Form}
+use Rattle.ld_text.specs.declared.form.Form.TheVariants.{Magic, Header, Body}
+use Rattle.ld_text.specs.declared.place.Site.{Site}
+use Rattle.ld_text.specs.declared.place.Site.TheVariants as site
+use Rattle.ld_text.specs.Lines.{Line, size_of, open_line, ended_lines, behind_feeds, lines_of}
+use Rattle.ld_text.specs.Place.{start, behind_all, said_in}
+use Rattle.ld_text.specs.Faults.{most_line, most_text, fault_of, first_fault, or_else, end_fault}
+use Rattle.ld_text.specs.Spelling.{defaults, with_items, spelled_items}
+use Rattle.ld_line.specs.declared.header.HeaderLine.TheVariants as header
+use Rattle.ld_text.specs.Text.{IsProject, IsReadAs, text_fault, early_fault, early_length, project_of, judged}
+use Rattle.ld_text.specs.Within.{IsWithin}
+use Rattle.ladder_tree.specs.BitWords as bits
+use Rattle.ld_text.specs.Reading.{Tree, Closed, Building, Standing, first, Taken, Goes, Stops, taken, taken_as, Mind, Reads, Refuses, next, fed, fresh, Verdict, Accepts, Rejects, project_at, ended_as, at_end, finished}
+use Rattle.ld_text.proofs.TreeGrowth.{rungs_counted, so_far}
+use Rattle.ld_text.proofs.RunLemmas.{then, run, early_run, Far, FedTo, fed_to, run_goes, run_stops}
+use Rattle.ld_text.proofs.SaidLemmas.{IsBuilt}
+use Rattle.ld_text.proofs.KnowsLemmas.{Counts, Knows, KnowsAt, InBody, IsClosed, at_first, told, is_good}
 
-pub one_project : (ls : List (List ℕ)) (p q : Project) → IsProject ls p → IsProject ls q → p ≡ q
-one_project ls p q h g =
-    let a = leads_to_rest ls p h in
-    let b = leads_to_rest ls q g in
-    let same : p.rungs ≡ q.rungs = cc in
-    h.settings ∙ ap project_of same ∙ sym g.settings
+run-append : (n : ℕ) (xs ys : List Line) (s : Standing) → run n (xs ++ ys) s ≡ then (run (n + length xs) ys) (run n xs s)
+run-append n [] ys s = let k : n ≡ n + 0 = omega arith in ap (λ k. run k ys s) k
+run-append n (x ∷ xs) ys s = by (taken n x.bytes (size_of x) s) (λ t. run-append (n + 1) xs ys t)
+  where
+    by : (o : Taken) → ((t : Standing) → run (n + 1) (xs ++ ys) t ≡ then (run (n + 1 + length xs) ys) (run (n + 1) xs t)) → then (run (n + 1) (xs ++ ys)) o ≡ then (run (n + length (x ∷ xs)) ys) (then (run (n + 1) xs) o)
+    by (Stops f) rec = refl
+    by (Goes t) rec = let k : n + 1 + length xs ≡ n + length (x ∷ xs) = omega arith in rec t ∙ ap (λ k. then (run k ys) (run (n + 1) xs t)) k
 
-module _ (Form : List (List ℕ) → Type 0) where
-  -- fewer lines begin a text of the form too
-  begins_front : (k m : ℕ) (ls : List (List ℕ)) → k ≤ m → Begins Form (take m ls) → Begins Form (take k ls)
-  begins_front k m ls h b =
-      let front : take k (take m ls) ≡ take k ls = take-take k m ls h in
-      let parts : take k ls ++ drop k (take m ls) ≡ take m ls = ap (λ x. x ++ drop k (take m ls)) (sym front) ∙ take-append-drop k (take m ls) in
-      (drop k (take m ls) ++ b.0, subst Form (sym (sym (append_assoc (take k ls) (drop k (take m ls)) b.0) ∙ ap (λ x. x ++ b.0) parts)) b.1)
+then_none : (n : ℕ) (o : Taken) → then (run n []) o ≡ o
+then_none n (Goes t) = refl
+then_none n (Stops f) = refl
 
-  begins_whole : (k : ℕ) (ls : List (List ℕ)) → Form ls → Begins Form (take k ls)
-  begins_whole k ls h = (drop k ls, subst Form (sym (take-append-drop k ls)) h)
+too_long : (n : ℕ) (bytes : List ℕ) (size : ℕ) (s : Standing) → ltb most_line (length bytes) ≡ true → taken n bytes size s ≡ Stops (LineTooLong n)
+too_long n bytes size s h = rw h refl
 
-  no_later : (over : Bool) (ls : List (List ℕ)) (k m : ℕ) → IsRefusedAt Form over ls k → IsRefusedAt Form over ls m → k < m → ⊥
-  no_later over ls k m h g lt = by h.cause
-    where
-      past_end : length ls < m → ((over ≡ true) ⊎ (length ls + 1 < m)) → ⊥
-      past_end far why = by_other g.cause why
-        where
-          by_other : ((0 < m) × (m ≤ length ls) × (Begins Form (take m ls) → ⊥)) ⊎ (((over ≡ true) × (0 < m) × (m ≡ length ls)) ⊎ ((over ≡ false) × (m ≡ length ls + 1) × (Form ls → ⊥))) → ((over ≡ true) ⊎ (length ls + 1 < m)) → ⊥
-          by_other (inl c) why = absurd (omega arith)
-          by_other (inr (inl c)) why = absurd (omega arith)
-          by_other (inr (inr c)) (inl o) = let no = c.0 in absurd cc
-          by_other (inr (inr c)) (inr o) = absurd (omega arith)
+next_is : (n k : ℕ) → n ≤ k + 1 → k ≤ most_text → next n ≡ n + 1
+next_is n k h g = omega arith
 
-      by : ((0 < k) × (k ≤ length ls) × (Begins Form (take k ls) → ⊥)) ⊎ (((over ≡ true) × (0 < k) × (k ≡ length ls)) ⊎ ((over ≡ false) × (k ≡ length ls + 1) × (Form ls → ⊥))) → ⊥
-      by (inl c) = c.2 (begins_front k (m - 1) ls (omega arith) g.before)
-      by (inr (inl c)) = past_end (omega arith) (inl c.0)
-      by (inr (inr c)) = past_end (omega arith) (inr (omega arith))
+not_long : (k : ℕ) → k ≤ 512 → ltb 512 k ≡ false
+not_long k h = grind (arith, nat_tests)
 
-  not_both : (over : Bool) (ls : List (List ℕ)) (k : ℕ) → over ≡ false → Form ls → IsRefusedAt Form over ls k → ⊥
-  not_both over ls k o h g = by g.cause
-    where
-      by : ((0 < k) × (k ≤ length ls) × (Begins Form (take k ls) → ⊥)) ⊎ (((over ≡ true) × (0 < k) × (k ≡ length ls)) ⊎ ((over ≡ false) × (k ≡ length ls + 1) × (Form ls → ⊥))) → ⊥
-      by (inl c) = c.2 (begins_whole k ls h)
-      by (inr (inl c)) = let yes = c.0 in absurd cc
-      by (inr (inr c)) = c.2 h
+-- where bytes take a reader, the whole text's lines take it
+whole_by : (text : List ℕ) (m : Mind) → FedTo 1 text first m → finished m ≡ at_end (length (lines_of text) + 1) (run 1 (lines_of text) first)
+whole_by text (Reads k l t) far = by l far.rest refl
+  where
+    lines : run 1 (lines_of text) first ≡ run (1 + length (ended_lines text)) (open_line (behind_feeds text)) t
+    lines = run-append 1 (ended_lines text) (open_line (behind_feeds text)) first ∙ ap (then (run (1 + length (ended_lines text)) (open_line (behind_feeds text)))) far.lines
 
-same_line : (k m : ℕ) → (k < m → ⊥) → (m < k → ⊥) → k ≡ m
-same_line k m f g = omega arith
+    by : (r : List ℕ) → behind_feeds text ≡ r → l ≡ r → finished (Reads k l t) ≡ at_end (length (lines_of text) + 1) (run 1 (lines_of text) first)
+    by [] e f =
+        let numbered : k ≡ length (lines_of text) + 1 = omega (arith, far.number, length-append (ended_lines text) (open_line (behind_feeds text)), ap (λ x. length (open_line x)) e) in
+        ap (λ x. finished (Reads k x t)) f ∙ ap (λ x. at_end x (Goes t)) numbered ∙ ap (at_end (length (lines_of text) + 1)) (sym (lines ∙ ap (λ x. run (1 + length (ended_lines text)) (open_line x) t) e))
+    by (b ∷ bs) e f =
+        let numbered : next k ≡ length (lines_of text) + 1 = next_is k t.place.bytes far.few far.within ∙ omega (arith, far.number, length-append (ended_lines text) (open_line (behind_feeds text)), ap (λ x. length (open_line x)) e) in
+        ap (λ x. finished (Reads k x t)) f
+        ∙ ap (λ x. at_end x (taken k (b ∷ bs) (length (b ∷ bs)) t)) numbered
+        ∙ ap (λ x. at_end (length (lines_of text) + 1) (taken x (b ∷ bs) (length (b ∷ bs)) t)) far.number
+        ∙ ap (at_end (length (lines_of text) + 1)) (sym (lines ∙ ap (λ x. run (1 + length (ended_lines text)) (open_line x) t) e ∙ then_none (1 + length (ended_lines text) + 1) (taken (1 + length (ended_lines text)) (b ∷ bs) (length (b ∷ bs)) t)))
+whole_by text (Refuses f) far = by (run 1 (ended_lines text) first) refl far
+  where
+    lines : (o : Taken) → run 1 (ended_lines text) first ≡ o → run 1 (lines_of text) first ≡ then (run (1 + length (ended_lines text)) (open_line (behind_feeds text))) o
+    lines o e = run-append 1 (ended_lines text) (open_line (behind_feeds text)) first ∙ ap (then (run (1 + length (ended_lines text)) (open_line (behind_feeds text)))) e
 
-pub one_refusal : (text : List ℕ) (line other : ℕ) → IsTextRefusedAt text line → IsTextRefusedAt text other → line ≡ other
-one_refusal text line other h g =
-    same_line line other
-    (no_later IsProjectText (is_over text) (lines (judged text)) line other h g)
-    (no_later IsProjectText (is_over text) (lines (judged text)) other line g h)
+    long : (t : Standing) (r : List ℕ) → behind_feeds text ≡ r → run 1 (ended_lines text) first ≡ Goes t → (b : Bool) → ltb most_line (length r) ≡ b → cond b (Some (LineTooLong (1 + length (ended_lines text)))) None ≡ Some f → Rejects f ≡ at_end (length (lines_of text) + 1) (run 1 (lines_of text) first)
+    long t r e g false h i = absurd cc
+    long t [] e g true h i = absurd cc
+    long t (b ∷ bs) e g true h i =
+        let same : LineTooLong (1 + length (ended_lines text)) ≡ f = cc in
+        ap Rejects (sym same)
+        ∙ ap (at_end (length (lines_of text) + 1)) (sym (lines (Goes t) g ∙ ap (λ x. run (1 + length (ended_lines text)) (open_line x) t) e ∙ then_none (1 + length (ended_lines text) + 1) (taken (1 + length (ended_lines text)) (b ∷ bs) (length (b ∷ bs)) t) ∙ too_long (1 + length (ended_lines text)) (b ∷ bs) (length (b ∷ bs)) t h))
 
-pub one_verdict : (text : List ℕ) (p : Project) (line : ℕ) → IsReadAs text p → IsTextRefusedAt text line → ⊥
-one_verdict text p line h g = not_both IsProjectText (is_over text) (lines (judged text)) line h.within (p, h.project) g
+    by : (o : Taken) → run 1 (ended_lines text) first ≡ o → early_run o (1 + length (ended_lines text)) (behind_feeds text) ≡ Some f → Rejects f ≡ at_end (length (lines_of text) + 1) (run 1 (lines_of text) first)
+    by (Stops g) e h = let same : g ≡ f = cc in ap Rejects (sym same) ∙ ap (at_end (length (lines_of text) + 1)) (sym (lines (Stops g) e))
+    by (Goes t) e h = long t (behind_feeds text) refl e (ltb most_line (length (behind_feeds text))) refl h
 
-within_limit : (k : ℕ) → ltb 65536 k ≡ false → k ≤ 65536
-within_limit k h = grind (arith, nat_tests)
+fed_whole : (text : List ℕ) → FedTo 1 text first (fed fresh text)
+fed_whole text = fed_to text [] 1 first (All-nil (λ x. x ≢ 10)) (lit≤ tt) (lit≤ tt) (lit≤ tt)
 
-pub read_whole : (text : List ℕ) (p : Project) → IsReadAs text p → (length text ≤ 65536) × IsProject (lines text) p
-read_whole text p h =
-    let short : length text ≤ 65536 = omega (arith, within_limit (length (judged text)) h.within, length-take 65537 text) in
-    (short, subst (λ t. IsProject (lines t) p) (take_all 65537 text (omega arith)) h.project)
+-- an answer that is the verdict of the text
+abbrev pub IsVerdict : List ℕ → Verdict → Type 0
+IsVerdict text (Accepts p) = IsReadAs text p × IsWithin p
+IsVerdict text (Rejects f) = text_fault text ≡ Some f
 
+all_and : (p q : leaf.Leaf → Bool) (ls : List leaf.Leaf) → list_all (λ l. p l && q l) ls ≡ true → (list_all p ls ≡ true) × (list_all q ls ≡ true)
+all_and p q [] h = (refl, refl)
+all_and p q (l ∷ ls) h = by (p l) (q l) (list_all (λ l. p l && q l) ls) refl refl refl h (λ e. all_and p q ls e)
+  where
+    by : (a b c : Bool) → p l ≡ a → q l ≡ b → list_all (λ l. p l && q l) ls ≡ c → ((a && b) && c) ≡ true → (list_all (λ l. p l && q l) ls ≡ true → (list_all p ls ≡ true) × (list_all q ls ≡ true)) → (list_all p (l ∷ ls) ≡ true) × (list_all q (l ∷ ls) ≡ true)
+    by true true true e f g h rec = let r = rec g in (rw e r.0, rw f r.1)
+    by true true false e f g h rec = absurd cc
+    by true false c e f g h rec = absurd cc
+    by false b c e f g h rec = absurd cc
+
+-- a text whose lines lead to the space between rungs is a project's
+accepted : (text : List ℕ) (t : Standing) (gs : List Rung) (chip : Target) → run 1 (lines_of text) first ≡ Goes t → t.place.site ≡ site.Between → t.tree ≡ Closed gs → t.settings.target ≡ Some chip → IsReadAs text (project_of t.settings chip gs) × IsWithin (project_of t.settings chip gs)
+accepted text t gs chip h e f g =
+    let lines = run_goes 1 (lines_of text) first t h in
+    let k = told 1 (lines_of text) first t [] at_first h in
+    let body : InBody k.more t × IsClosed t.tree = subst (λ x. KnowsAt x k.more t) e k.knows.spelled in
+    let counts : Counts t.place (Closed gs) = subst (Counts t.place) f k.knows.counts in
+    let counted = rungs_counted gs in
+    let good = all_and (λ l. is_read_kind l.kind) (λ l. bits.is_bit_word l.kind) (all_leaves gs) (ap (list_all is_good) (sym counted.elements) ∙ counts.good) in (
+      record {
+        faultless = ap (λ x. or_else x (end_fault (behind_all start 1 (lines_of text)).site (length (lines_of text) + 1))) lines.0 ∙ ap (λ x. end_fault x.site (length (lines_of text) + 1)) lines.1 ∙ ap (λ x. end_fault x (length (lines_of text) + 1)) e;
+        project = record {
+          items = body.0.items;
+          spelled = k.said ∙ ap (map Is) (body.0.spelled ∙ ap (λ x. Magic ∷ (spelled_items body.0.items ++ Header header.Program ∷ map Body (so_far x))) f);
+          target = ap (λ x. x.target) (sym body.0.settings) ∙ g;
+          settings = ap (λ x. project_of x chip gs) body.0.settings;
+        };
+      },
+      record {
+        target = subst IsBuilt (sym k.knows.target ∙ g) k.knows.built;
+        cycle = k.knows.timed;
+        rungs = omega (arith, counted.begins, counts.rungs, counts.few_rungs);
+        elements = omega (arith, ap length counted.elements, counts.elements, counts.few_elements);
+        forms = omega (arith, counted.opens, counts.openings, counts.few_openings);
+        depth = counts.shallow;
+        read = good.0;
+        bits = good.1;
+      },
+    )
+
+-- the lines lead a reader to the verdict of the text
+verdict_by : (text : List ℕ) (o : Taken) → run 1 (lines_of text) first ≡ o → IsVerdict text (at_end (length (lines_of text) + 1) o)
+verdict_by text (Stops f) h = ap (λ x. or_else x (end_fault (behind_all start 1 (lines_of text)).site (length (lines_of text) + 1))) (run_stops 1 (lines_of text) first f h)
+verdict_by text (Goes t) h = by t.place.site refl
+  where
+    lines : (first_fault start 1 (lines_of text) ≡ None) × (behind_all start 1 (lines_of text) ≡ t.place)
+    lines = run_goes 1 (lines_of text) first t h
+
+    ends : (x : Site) → t.place.site ≡ x → text_fault text ≡ end_fault x (length (lines_of text) + 1)
+    ends x e = ap (λ x. or_else x (end_fault (behind_all start 1 (lines_of text)).site (length (lines_of text) + 1))) lines.0 ∙ ap (λ x. end_fault x.site (length (lines_of text) + 1)) lines.1 ∙ ap (λ x. end_fault x (length (lines_of text) + 1)) e
+
+    refused : (x : Site) (f : ProjectFault) → t.place.site ≡ x → end_fault x (length (lines_of text) + 1) ≡ Some f → IsVerdict text (at_end (length (lines_of text) + 1) (Goes t))
+    refused x f e g = subst (λ y. IsVerdict text (ended_as y (length (lines_of text) + 1) t)) (sym (ap (λ x. end_fault x (length (lines_of text) + 1)) e ∙ g)) (ends x e ∙ g)
+
+    between : t.place.site ≡ site.Between → (d : Tree) (c : Option Target) → t.tree ≡ d → t.settings.target ≡ c → IsVerdict text (project_at t.settings d c (length (lines_of text) + 1))
+    between e (Closed gs) (Some chip) f g = accepted text t gs chip h e f g
+    between e (Closed gs) None f g =
+        let k = told 1 (lines_of text) first t [] at_first h in
+        let body : InBody k.more t × IsClosed t.tree = subst (λ x. KnowsAt x k.more t) e k.knows.spelled in
+        let named = ap is_some (sym g) ∙ body.0.named in
+        absurd cc
+    between e (Building gs fs ns) c f g =
+        let k = told 1 (lines_of text) first t [] at_first h in
+        let body : InBody k.more t × IsClosed t.tree = subst (λ x. KnowsAt x k.more t) e k.knows.spelled in
+        absurd (subst IsClosed f body.1)
+
+    by : (x : Site) → t.place.site ≡ x → IsVerdict text (at_end (length (lines_of text) + 1) (Goes t))
+    by site.First e = refused site.First _ e refl
+    by site.Header e = refused site.Header _ e refl
+    by site.Pins e = refused site.Pins _ e refl
+    by site.Inside e = refused site.Inside _ e refl
+    by site.Between e = subst (λ y. IsVerdict text (ended_as y (length (lines_of text) + 1) t)) (sym (ap (λ x. end_fault x (length (lines_of text) + 1)) e)) (between e t.tree t.settings.target refl refl)
+
+pub verdict : (text : List ℕ) → IsVerdict text (finished (fed fresh text))
+verdict text = subst (IsVerdict text) (sym (whole_by text (fed fresh text) (fed_whole text))) (verdict_by text (run 1 (lines_of text) first) refl)
+
+-- what is known before a text ends
+abbrev pub IsEarly : List ℕ → Mind → Type 0
+IsEarly text (Reads k l s) = early_fault text ≡ None
+IsEarly text (Refuses f) = early_fault text ≡ Some f
+
+early_by : (text : List ℕ) (m : Mind) → FedTo 1 text first m → IsEarly text m
+early_by text (Reads k l t) far =
+    ap (λ x. or_else x (early_length (length (ended_lines text) + 1) (behind_feeds text))) (run_goes 1 (ended_lines text) first t far.lines).0
+    ∙ ap (early_length (length (ended_lines text) + 1)) far.rest
+    ∙ ap (λ b. cond b (Some (LineTooLong (length (ended_lines text) + 1))) None) (not_long (length l) far.short)
+early_by text (Refuses f) far = by (run 1 (ended_lines text) first) refl far
+  where
+    by : (o : Taken) → run 1 (ended_lines text) first ≡ o → early_run o (1 + length (ended_lines text)) (behind_feeds text) ≡ Some f → early_fault text ≡ Some f
+    by (Stops g) e h = let same : g ≡ f = cc in ap (λ x. or_else x (early_length (length (ended_lines text) + 1) (behind_feeds text))) (run_stops 1 (ended_lines text) first g e) ∙ ap Some same
+    by (Goes t) e h =
+        let k : length (ended_lines text) + 1 ≡ 1 + length (ended_lines text) = omega arith in
+        ap (λ x. or_else x (early_length (length (ended_lines text) + 1) (behind_feeds text))) (run_goes 1 (ended_lines text) first t e).0 ∙ ap (λ k. early_length k (behind_feeds text)) k ∙ h
+
+pub early : (text : List ℕ) → IsEarly text (fed fresh text)
+early text = early_by text (fed fresh text) (fed_whole text)
+
+-- what is refused early is the fault of the text
+pub early_is_final : (text : List ℕ) (f : ProjectFault) → early_fault text ≡ Some f → text_fault text ≡ Some f
+early_is_final text f h = by (fed fresh text) (early text) (verdict text)
+  where
+    by : (m : Mind) → IsEarly text m → IsVerdict text (finished m) → text_fault text ≡ Some f
+    by (Reads k l s) e v = absurd cc
+    by (Refuses g) e v = let same : g ≡ f = cc in v ∙ ap Some same
+
+-- nothing behind the first byte past the limit counts
 pub judged_again : (text : List ℕ) → judged (judged text) ≡ judged text
-judged_again text = take_all 65537 (take 65537 text) (omega (arith, length-take 65537 text))
+judged_again text = take_all 8388609 (take 8388609 text) (omega (arith, length-take 8388609 text))

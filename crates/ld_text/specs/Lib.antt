@@ -1,6 +1,7 @@
-pub mod Fault
-pub mod Header
-pub mod Marks
+pub mod Lines
+pub mod Place
+pub mod Faults
 pub mod Spelling
 pub mod Text
+pub mod Within
 pub mod Reading

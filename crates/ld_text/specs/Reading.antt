@@ -1,81 +1,227 @@
--- Reading a project text line by line: where a reader stands, and where a line takes it.
-use Rattle.std.specs.Prelude.{ℕ, ◌+◌, List, [], ◌∷◌, ◌++◌, length, drop, reverse, Option, None, Some, option_map, option_and_then, nat_lt, if◌then◌else◌}
-use Rattle.std.specs.Str.{bytes_eq}
+-- Reading a text byte by byte: where a reader stands, and where a byte takes it.
+use Rattle.std.specs.Prelude.{◌≡◌, ⊤, alloc_error, ℕ, ◌+◌, ◌<◌, ◌≤◌, ◌^◌, ◌-◌, ◌==◌, Bool, true, false, min, nat_lt, List, [], ◌∷◌, ◌++◌, length, reverse, Option, None, Some, Result, Ok, Err, if◌then◌else◌}
+use Rattle.chip_tables.specs.declared.target.Target.{Target}
+use Rattle.ladder_tree.specs.declared.fault.ProjectFault.{ProjectFault}
+use Rattle.ladder_tree.specs.declared.fault.ProjectFault.TheVariants.{BadLine, NumberRange, Unclosed, LineTooLong}
 use Rattle.ladder_tree.specs.declared.project.Node.{Node, Leaf, Series, Parallel}
+use Rattle.ladder_tree.specs.declared.project.Project.{Project}
 use Rattle.ladder_tree.specs.declared.project.Rung.{Rung}
-use Rattle.ld_text.specs.declared.mark.Circuit.{Circuit}
-use Rattle.ld_text.specs.declared.mark.Circuit.TheVariants as circuit
-use Rattle.ld_text.specs.declared.mark.Mark.{Mark}
-use Rattle.ld_text.specs.declared.mark.Mark.TheVariants as line
-use Rattle.ld_text.specs.declared.reader.Frame.{Frame}
-use Rattle.ld_text.specs.declared.reader.OpenRung.{OpenRung}
-use Rattle.ld_text.specs.declared.reader.Body.{Body}
+use Rattle.ld_line.specs.declared.said.Said.{Said}
+use Rattle.ld_line.specs.declared.said.Said.TheVariants.{Bad, Range, Is}
+use Rattle.ld_line.specs.declared.header.HeaderLine.{HeaderLine}
+use Rattle.ld_line.specs.declared.header.HeaderLine.TheVariants as header
+use Rattle.ld_line.specs.declared.pins.PinsLine.TheVariants as pins
+use Rattle.ld_line.specs.declared.rungs.Circuit.{Circuit}
+use Rattle.ld_line.specs.declared.rungs.Circuit.TheVariants as circuit
+use Rattle.ld_text.specs.declared.fault.TextError.{TextError}
+use Rattle.ld_text.specs.declared.fault.TextError.TheVariants as error
+use Rattle.ld_text.specs.declared.draft.Settings.{Settings}
+use Rattle.ld_text.specs.declared.draft.Frame.{Frame}
+use Rattle.ld_text.specs.declared.draft.OpenRung.{OpenRung}
+use Rattle.ld_text.specs.declared.draft.Rack.{Rack}
+use Rattle.ld_text.specs.declared.form.Mark.{Mark}
+use Rattle.ld_text.specs.declared.form.Mark.TheVariants as mark
+use Rattle.ld_text.specs.declared.form.Form.{Form}
+use Rattle.ld_text.specs.declared.form.Form.TheVariants.{Blank, Magic, Header, Pins, Body}
+use Rattle.ld_text.specs.declared.place.Place.{Place}
+use Rattle.ld_text.specs.declared.stand.Stand as rust
+use Rattle.ld_text.specs.declared.reader.Cursor.{Cursor}
+use Rattle.ld_text.specs.declared.reader.State.{State}
+use Rattle.ld_text.specs.declared.reader.State.TheVariants as state
 use Rattle.ld_text.specs.declared.reader.Reader.{Reader}
-use Rattle.ld_text.specs.declared.reader.Reader.TheVariants as reader
-use Rattle.ld_text.specs.Header.{header_lines}
-use Rattle.ld_text.specs.Marks.{mark_of_line}
+use Rattle.ld_text.specs.Place.{start, said_in, behind_said}
+use Rattle.ld_text.specs.Faults.{most_line, most_text, most_depth, most_rungs, most_lines, fault_of, end_fault}
+use Rattle.ld_text.specs.Spelling.{defaults}
+use Rattle.ld_text.specs.Text.{project_of}
 
--- between two rungs, or inside a rung with its open forms, the innermost first, and the nodes of the innermost so far
-pub data Place : Type 0 where
-  Between : (gs : List Rung) → Place
-  Inside : (gs : List Rung) (fs : List Frame) (ns : List Node) → Place
-
--- in the header, with its next line and those behind, or at a place below it
-pub data State : Type 0 where
-  Above : (next : List ℕ) (left : List (List ℕ)) → State
-  Below : (p : Place) → State
+-- rungs, and behind them perhaps an open one with its open forms, the innermost first, and the nodes of the innermost so far
+pub data Tree : Type 0 where
+  Closed : (gs : List Rung) → Tree
+  Building : (gs : List Rung) (fs : List Frame) (ns : List Node) → Tree
 
 abbrev pub closed : Circuit → List Node → Node
 closed circuit.Series ns = Series ns
 closed circuit.Parallel ns = Parallel ns
 
-abbrev pub ended : List Rung → List Frame → List Node → Place
-ended gs [] ns = Between (gs ++ record { nodes = ns } ∷ [])
-ended gs (f ∷ fs) ns = Inside gs fs (f.nodes ++ closed f.circuit ns ∷ [])
+abbrev pub ended : List Rung → List Frame → List Node → Tree
+ended gs [] ns = Closed (gs ++ record { nodes = ns } ∷ [])
+ended gs (f ∷ fs) ns = Building gs fs (f.nodes ++ closed f.circuit ns ∷ [])
 
-abbrev pub after_mark : Place → Mark → Option Place
-after_mark (Between gs) line.Rung = Some (Inside gs [] [])
-after_mark (Between gs) _ = None
-after_mark (Inside gs fs ns) line.Rung = None
-after_mark (Inside gs fs ns) (line.Open c) = if nat_lt (length fs) 16 then Some (Inside gs (record { circuit = c; nodes = ns } ∷ fs) []) else None
-after_mark (Inside gs fs ns) line.End = Some (ended gs fs ns)
-after_mark (Inside gs fs ns) (line.Element l) = Some (Inside gs fs (ns ++ Leaf l ∷ []))
+-- a line that does not fit changes nothing
+abbrev pub grown : Tree → Mark → Tree
+grown (Closed gs) mark.Rung = Building gs [] []
+grown (Closed gs) (mark.Open c) = Closed gs
+grown (Closed gs) mark.End = Closed gs
+grown (Closed gs) (mark.Element l) = Closed gs
+grown (Building gs fs ns) mark.Rung = Building gs fs ns
+grown (Building gs fs ns) (mark.Open c) = Building gs (record { circuit = c; nodes = ns } ∷ fs) []
+grown (Building gs fs ns) mark.End = ended gs fs ns
+grown (Building gs fs ns) (mark.Element l) = Building gs fs (ns ++ Leaf l ∷ [])
 
--- with these lines of the header left
-abbrev pub above : List (List ℕ) → State
-above [] = Below (Between [])
-above (h ∷ hs) = Above h hs
+abbrev pub with_form : Tree → Form → Tree
+with_form t Blank = t
+with_form t Magic = t
+with_form t (Header h) = t
+with_form t (Pins q) = t
+with_form t (Body m) = grown t m
 
-abbrev pub step : ℕ → List ℕ → State → Option State
-step number bytes (Above h hs) = if bytes_eq bytes h then Some (above hs) else None
-step number bytes (Below p) = option_map Below (option_and_then (after_mark p) (mark_of_line number bytes))
+abbrev pub settings_behind : Settings → Form → Settings
+settings_behind s Blank = s
+settings_behind s Magic = s
+settings_behind s (Header (header.Micro t)) = record s { target = t }
+settings_behind s (Header (header.Cycle n)) = record s { cycle = n }
+settings_behind s (Header (header.Crystal n)) = record s { crystal = n }
+settings_behind s (Header (header.Baud n)) = record s { baud = n }
+settings_behind s (Header header.Compiled) = s
+settings_behind s (Header header.Pins) = s
+settings_behind s (Header header.Program) = s
+settings_behind s (Pins (pins.Pin l)) = record s { pins = s.pins ++ l ∷ [] }
+settings_behind s (Pins pins.End) = s
+settings_behind s (Body m) = s
 
--- before the first line
-abbrev pub start : State
-start = above header_lines
+-- there may be one more of the line's kind
+abbrev pub RoomFor : Place → Form → Type 0
+RoomFor p (Body mark.Rung) = p.rungs < most_rungs
+RoomFor p (Body (mark.Open c)) = (p.depth < most_depth) × (p.openings < most_lines)
+RoomFor p (Body (mark.Element l)) = p.elements < most_lines
+RoomFor p (Body mark.End) = Unit {0}
+RoomFor p (Pins (pins.Pin l)) = p.pins < most_lines
+RoomFor p (Pins pins.End) = Unit {0}
+RoomFor p Blank = Unit {0}
+RoomFor p Magic = Unit {0}
+RoomFor p (Header h) = Unit {0}
 
--- behind lines whose first has the number
-abbrev pub run : ℕ → List (List ℕ) → State → Option State
-run number [] s = Some s
-run number (l ∷ ls) s = option_and_then (run (number + 1) ls) (step number l s)
+-- and for so many bytes
+abbrev pub HasRoom : Place → ℕ → Form → Type 0
+HasRoom p size form = (p.bytes + size ≤ most_text) × RoomFor p form
 
--- behind rungs, with nothing open
-abbrev pub at_rest : List Rung → State
-at_rest gs = Below (Between gs)
+-- what was read, and where the next line stands
+pub record Standing : Type 0 where
+  pub place : Place
+  pub settings : Settings
+  pub tree : Tree
 
--- the rungs, where nothing is left open
-abbrev pub rungs_at : State → Option (List Rung)
-rungs_at (Below (Between gs)) = Some gs
-rungs_at _ = None
+abbrev pub first : Standing
+first = record { place = start; settings = defaults; tree = Closed [] }
+
+abbrev pub standing_behind : ℕ → Standing → Form → Standing
+standing_behind size s form = record {
+  place = behind_said s.place size (Is form);
+  settings = settings_behind s.settings form;
+  tree = with_form s.tree form;
+}
+
+pub data Taken : Type 0 where
+  Goes : (s : Standing) → Taken
+  Stops : (f : ProjectFault) → Taken
+
+-- the last two do not happen, since such a line has a fault
+abbrev pub taken_as : Option ProjectFault → Said Form → ℕ → ℕ → Standing → Taken
+taken_as (Some f) said number size s = Stops f
+taken_as None (Is form) number size s = Goes (standing_behind size s form)
+taken_as None Bad number size s = Stops (BadLine number)
+taken_as None Range number size s = Stops (NumberRange number)
+
+-- behind the line of the number, which takes so many bytes
+abbrev pub taken : ℕ → List ℕ → ℕ → Standing → Taken
+taken number bytes size s = taken_as (fault_of s.place number bytes size (said_in s.place.site number bytes)) (said_in s.place.site number bytes) number size s
+
+-- in a line of the number, of which these bytes came; or refused for good
+pub data Mind : Type 0 where
+  Reads : (number : ℕ) (line : List ℕ) (s : Standing) → Mind
+  Refuses : (f : ProjectFault) → Mind
+
+-- the next line's number
+abbrev pub next : ℕ → ℕ
+next number = min (number + 1) (2 ^ 32 - 1)
+
+abbrev pub line_done : ℕ → Taken → Mind
+line_done number (Goes s) = Reads (next number) [] s
+line_done number (Stops f) = Refuses f
+
+abbrev pub pushed : ℕ → List ℕ → Standing → ℕ → Mind
+pushed number line s byte = if nat_lt (length line) most_line then Reads number (line ++ byte ∷ []) s else Refuses (LineTooLong number)
+
+abbrev pub fed_byte : Mind → ℕ → Mind
+fed_byte (Refuses f) byte = Refuses f
+fed_byte (Reads number line s) byte = if byte == 10 then line_done number (taken number line (length line + 1) s) else pushed number line s byte
+
+abbrev pub fed : Mind → List ℕ → Mind
+fed m [] = m
+fed m (b ∷ bs) = fed (fed_byte m b) bs
+
+abbrev pub fresh : Mind
+fresh = Reads 1 [] first
+
+pub data Verdict : Type 0 where
+  Accepts : (p : Project) → Verdict
+  Rejects : (f : ProjectFault) → Verdict
+
+-- the last case does not happen, since a text that ends so has a fault
+abbrev pub project_at : Settings → Tree → Option Target → ℕ → Verdict
+project_at s (Closed gs) (Some t) number = Accepts (project_of s t gs)
+project_at s (Closed gs) None number = Rejects (Unclosed number)
+project_at s (Building gs fs ns) t number = Rejects (Unclosed number)
+
+abbrev pub ended_as : Option ProjectFault → ℕ → Standing → Verdict
+ended_as (Some f) number s = Rejects f
+ended_as None number s = project_at s.settings s.tree s.settings.target number
+
+abbrev pub at_end : ℕ → Taken → Verdict
+at_end number (Goes s) = ended_as (end_fault s.place.site number) number s
+at_end number (Stops f) = Rejects f
+
+-- the answer where the text ends
+abbrev pub finished : Mind → Verdict
+finished (Refuses f) = Rejects f
+finished (Reads number [] s) = at_end number (Goes s)
+finished (Reads number (b ∷ bs) s) = at_end (next number) (taken number (b ∷ bs) (length (b ∷ bs)) s)
 
 -- what a reader stands for
-abbrev pub place_at : List Rung → Option OpenRung → Place
-place_at gs None = Between gs
-place_at gs (Some rung) = Inside gs (reverse rung.frames.items) rung.nodes
+abbrev pub tree_at : List Rung → Option OpenRung → Tree
+tree_at gs None = Closed gs
+tree_at gs (Some rung) = Building gs (reverse rung.frames.items) rung.nodes
 
-abbrev pub place_of : Body → Place
-place_of b = place_at b.rungs b.open
+abbrev pub tree_of : Rack → Tree
+tree_of r = tree_at r.rungs r.open
 
-abbrev pub state_of : Reader → State
-state_of (reader.Header place) = above (drop place header_lines)
-state_of (reader.Body b) = Below (place_of b)
+abbrev pub standing_of : rust.Stand → Standing
+standing_of s = record { place = s.place; settings = s.draft.settings; tree = tree_of s.draft.rack }
+
+abbrev pub mind_of : Cursor → Mind
+mind_of c = Reads c.number c.line.items (standing_of c.stand)
+
+-- none where memory was wanting
+abbrev pub mind_at : State → Option Mind
+mind_at (state.Reads c) = Some (mind_of c)
+mind_at (state.Refused f) = Some (Refuses f)
+mind_at state.Exhausted = None
+
+-- what a reader does behind a piece, where its cursor answers this
+abbrev pub state_behind : Result Cursor TextError → State
+state_behind (Ok c) = state.Reads c
+state_behind (Err (error.Refused f)) = state.Refused f
+state_behind (Err (error.Memory e)) = state.Exhausted
+
+-- The reader stands where the text takes it.
+abbrev pub Stands : Reader → List ℕ → Type 0
+Stands r text = mind_at r.state ≡ Some (fed fresh text)
+
+-- why an error comes: want of memory may always be
+abbrev pub IsStopped : Taken → TextError → Type 0
+IsStopped t (error.Memory e) = ⊤
+IsStopped t (error.Refused f) = t ≡ Stops f
+
+abbrev pub IsRefused : Mind → TextError → Type 0
+IsRefused m (error.Memory e) = ⊤
+IsRefused m (error.Refused f) = m ≡ Refuses f
+
+abbrev pub IsRejected : Verdict → TextError → Type 0
+IsRejected v (error.Memory e) = ⊤
+IsRejected v (error.Refused f) = v ≡ Rejects f
+
+-- the error that a reader answers from now on
+abbrev pub failure_of : State → Option TextError
+failure_of (state.Reads c) = None
+failure_of (state.Refused f) = Some (error.Refused f)
+failure_of state.Exhausted = Some (error.Memory alloc_error)

@@ -1,55 +1,66 @@
--- What project a text stands for, and the line at which a text is refused.
-use Rattle.std.specs.Prelude.{◌≡◌, ◌≤◌, ℕ, ◌+◌, Bool, false, List, map, Some, take, drop, length, nat_lt, ⊤}
+-- What project a text stands for, and why a text is refused.
+use Rattle.std.specs.Prelude.{◌≡◌, ◌≤◌, ℕ, ◌+◌, List, [], ◌∷◌, ◌++◌, map, Some, None, Option, take, length, nat_lt, if◌then◌else◌, ⊤}
+use Rattle.chip_tables.specs.declared.target.Target.{Target}
+use Rattle.ladder_tree.specs.declared.fault.ProjectFault.{ProjectFault}
+use Rattle.ladder_tree.specs.declared.fault.ProjectFault.TheVariants.{LineTooLong}
 use Rattle.ladder_tree.specs.declared.project.Project.{Project}
-use Rattle.ladder_tree.specs.Leaves.{depth_of_all}
-use Rattle.ld_base.specs.Lines.{lines}
-use Rattle.ld_base.specs.Refusal.{IsRefusedAt}
-use Rattle.ld_text.specs.Header.{header_lines, project_of}
-use Rattle.ld_text.specs.Marks.{marks}
-use Rattle.ld_text.specs.Spelling.{spelled}
-use Rattle.ld_text.specs.declared.fault.ProjectFault.TheVariants.{NotBuilt}
+use Rattle.ladder_tree.specs.declared.project.Rung.{Rung}
+use Rattle.ld_line.specs.declared.said.Said.{Said}
+use Rattle.ld_line.specs.declared.said.Said.TheVariants.{Bad, Range, Is}
+use Rattle.ld_text.specs.declared.draft.Settings.{Settings}
 use Rattle.ld_text.specs.declared.fault.TextError.{TextError}
 use Rattle.ld_text.specs.declared.fault.TextError.TheVariants.{Refused, Memory}
+use Rattle.ld_text.specs.declared.form.Form.{Form}
+use Rattle.ld_text.specs.declared.form.Form.TheVariants.{Blank}
+use Rattle.ld_text.specs.declared.place.Place.{Place}
+use Rattle.ld_text.specs.Lines.{Line, ended_lines, behind_feeds, lines_of}
+use Rattle.ld_text.specs.Place.{start, said_at, behind, behind_all}
+use Rattle.ld_text.specs.Faults.{most_line, most_text, or_else, first_fault, end_fault}
+use Rattle.ld_text.specs.Spelling.{Item, spelled_project, defaults, with_items}
 
--- The lines are the header's, then those that spell the rungs. Each element has the number of its line.
-pub record IsProject (ls : List (List ℕ)) (p : Project) : Type 0 where
-  pub header : take 10 ls ≡ header_lines
-  pub body : marks 11 (drop 10 ls) ≡ map Some (spelled p.rungs)
-  -- at most 16 SERIES and PARALLELs stand in one another
-  pub depth : depth_of_all p.rungs ≤ 16
-  pub settings : p ≡ project_of p.rungs
+-- blank lines say nothing
+abbrev pub unblanked : Said Form → List (Said Form) → List (Said Form)
+unblanked (Is Blank) rest = rest
+unblanked said rest = said ∷ rest
 
--- the lines are a project's
-abbrev pub IsProjectText : List (List ℕ) → Type 0
-IsProjectText ls = (p : Project) × IsProject ls p
+-- what lines say, each at its place; the first has the number
+abbrev pub said_by : Place → ℕ → List Line → List (Said Form)
+said_by p number [] = []
+said_by p number (l ∷ ls) = unblanked (said_at p number l) (said_by (behind p number l) (number + 1) ls)
 
--- how many bytes a text may have
-abbrev pub text_limit : ℕ
-text_limit = 65536
+abbrev pub project_of : Settings → Target → List Rung → Project
+project_of s t gs = record { target = t; cycle = s.cycle; crystal = s.crystal; baud = s.baud; pins = s.pins; rungs = gs }
 
--- what is read of a text
-abbrev pub judged : List ℕ → List ℕ
-judged text = take (text_limit + 1) text
+-- The lines spell the project.
+pub record IsProject (ls : List Line) (p : Project) : Type 0 where
+  pub items : List Item
+  pub spelled : said_by start 1 ls ≡ map Is (spelled_project items p.rungs)
+  pub target : (with_items defaults items).target ≡ Some p.target
+  pub settings : p ≡ project_of (with_items defaults items) p.target p.rungs
 
--- whether the text is longer than it may be
-abbrev pub is_over : List ℕ → Bool
-is_over text = nat_lt text_limit (length (judged text))
+-- the fault of the first line that has one, or of the end
+abbrev pub text_fault : List ℕ → Option ProjectFault
+text_fault text =
+    or_else (first_fault start 1 (lines_of text)) (end_fault (behind_all start 1 (lines_of text)).site (length (lines_of text) + 1))
 
--- the text is read as the project
+-- the text has no fault, and spells the project
 pub record IsReadAs (text : List ℕ) (p : Project) : Type 0 where
-  pub within : is_over text ≡ false
-  pub project : IsProject (lines (judged text)) p
+  pub faultless : text_fault text ≡ None
+  pub project : IsProject (lines_of text) p
 
--- the text is refused at the line
-abbrev pub IsTextRefusedAt : List ℕ → ℕ → Type 0
-IsTextRefusedAt text line = IsRefusedAt IsProjectText (is_over text) (lines (judged text)) line
+-- a line that is not ended is looked at early where it is too long already
+abbrev pub early_length : ℕ → List ℕ → Option ProjectFault
+early_length number bytes = if nat_lt most_line (length bytes) then Some (LineTooLong number) else None
 
--- why an error comes, where the fault's line is one of these: want of memory may always be
-abbrev pub IsCauseAt : (ℕ → Type 0) → TextError → Type 0
-IsCauseAt IsRefused (Memory e) = ⊤
-IsCauseAt IsRefused (Refused (NotBuilt line)) = IsRefused line
-IsCauseAt IsRefused (Refused _) = ⊥
+-- the first fault of the lines that are ended, or that what stands behind them is too long
+abbrev pub early_fault : List ℕ → Option ProjectFault
+early_fault text = or_else (first_fault start 1 (ended_lines text)) (early_length (length (ended_lines text) + 1) (behind_feeds text))
 
--- why an error comes
-abbrev pub IsCause : List ℕ → TextError → Type 0
-IsCause text e = IsCauseAt (IsTextRefusedAt text) e
+-- why an error comes, where the text's fault is this: want of memory may always be
+abbrev pub IsCause : Option ProjectFault → TextError → Type 0
+IsCause found (Memory e) = ⊤
+IsCause found (Refused f) = found ≡ Some f
+
+-- what is read of a text: its limit, and one byte more
+abbrev pub judged : List ℕ → List ℕ
+judged text = take (most_text + 1) text

@@ -1,10 +1,13 @@
-//! Project texts: what they stand for, and the line at which a text is refused.
+//! Project texts: what they stand for, and the first fault of those that stand for nothing.
 #![tactic(auto)]
 
+mod draft;
 pub mod fault;
-mod header;
+mod form;
 pub mod laws;
-mod mark;
-mod name;
+mod place;
 pub mod read;
-mod reader;
+pub mod reader;
+mod stand;
+#[cfg(test)]
+mod tests;

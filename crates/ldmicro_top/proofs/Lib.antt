@@ -3,3 +3,4 @@ pub mod CarryLemmas
 pub mod NamedLemmas
 pub mod JudgeLemmas
 pub mod LengthLemmas
+pub mod LegalLemmas

@@ -163,7 +163,7 @@ module _ (told shown : Bool) (source dest : List ℕ) (old new : World) (later :
       d.why
 
   good_of : (code printed : List ℕ) → IsCompiled source old.held code printed → Expected asked old.held Ok
-  good_of code printed a = subst (λ (o : _). SourceAnswers o Ok) (sym a.read) (a.compiled.project, a.compiled.stands)
+  good_of code printed a = subst (λ (o : _). SourceAnswers o Ok) (sym a.read) (a.compiled.project, a.compiled.stands, a.compiled.legal)
 
   from_middle : (middle : Held) (bytes : List ℕ) → SameHeld old.held middle → HoldsThen middle new.held dest bytes → HoldsThen old.held new.held dest bytes
   from_middle middle bytes same h n = h n ∙ ap (cond (bytes_eq dest n) (Some bytes)) (same n)

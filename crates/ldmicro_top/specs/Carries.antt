@@ -5,8 +5,8 @@ use Rattle.ladder_tree.specs.declared.names.Names.{Names}
 use Rattle.ladder_tree.specs.declared.project.Project.{Project}
 use Rattle.ladder_tree.specs.Names.{names_of}
 use Rattle.ladder_meaning.specs.declared.reading.Reading.{Reading}
-use Rattle.ladder_meaning.specs.State.{seen}
-use Rattle.ladder_meaning.specs.Cycle.{State, start, history}
+use Rattle.ladder_meaning.specs.State.{State, seen}
+use Rattle.ladder_meaning.specs.Cycle.{Ended, start, history}
 use Rattle.int_code.specs.Meaning.{Moment}
 use Rattle.int_code.specs.Meaning as int
 use Rattle.ladder_lower.specs.Correct.{Shows}
@@ -20,13 +20,13 @@ pub record ShowsWithin (n : Names) (most : ℕ) (s : State) (m : Moment) : Type 
   pub few : m.count ≤ most
 
 -- the same at the end of each cycle, of which there are as many on both sides
-abbrev pub EachShows : Names → ℕ → List State → List Moment → Type 0
+abbrev pub EachShows : Names → ℕ → List Ended → List Moment → Type 0
 EachShows n most [] [] = Unit {0}
-EachShows n most (s ∷ ss) (m ∷ ms) = ShowsWithin n most s m × EachShows n most ss ms
+EachShows n most (e ∷ es) (m ∷ ms) = ShowsWithin n most e.state m × EachShows n most es ms
 EachShows n most [] (m ∷ ms) = ⊥
-EachShows n most (s ∷ ss) [] = ⊥
+EachShows n most (e ∷ es) [] = ⊥
 
--- From the start, on any readings: the text's program has the project's cycle time and names, and ends every cycle with
+-- From the start with any EEPROM, on any readings: the text's program has the project's cycle time and names, and ends every cycle with
 -- the outputs, relays and memories of the ladder, after at most as many operations as the text has.
 pub record Carries (p : Project) (code : List ℕ) (most : ℕ) : Type 0 where
   pub program : InterpProgram
@@ -37,4 +37,4 @@ pub record Carries (p : Project) (code : List ℕ) (most : ℕ) : Type 0 where
   pub outputs : program.names.outputs ≡ (names_of p.rungs).outputs
   pub relays : program.names.relays ≡ (names_of p.rungs).relays
   pub operations : length program.program.ops ≡ most
-  pub each : (rs : List Reading) → EachShows (names_of p.rungs) most (history p.rungs start (map (seen (names_of p.rungs).inputs) rs)) (int.history program.program.ops int.start rs)
+  pub each : (eeprom : ℕ → ℕ) (rs : List Reading) → EachShows (names_of p.rungs) most (history p (start p eeprom) (map (seen (names_of p.rungs)) rs)) (int.history program.program.ops int.start rs)

@@ -1,17 +1,24 @@
 -- The answer that is expected of the words and of what the names hold.
-use Rattle.std.specs.Prelude.{◌≡◌, ℕ, Bool, true, false, List, Option, Some, None}
+use Rattle.std.specs.Prelude.{◌≡◌, ◌⊎◌, ⊤, ℕ, Bool, true, false, List, Option, Some, None}
 use Rattle.ld_base.specs.Bytes.{Held}
 use Rattle.ladder_tree.specs.declared.project.Project.{Project}
-use Rattle.ld_text.specs.Text.{IsReadAs, IsTextRefusedAt}
-use Rattle.ld_text.specs.declared.fault.ProjectFault.TheVariants.{NotBuilt}
+use Rattle.ladder_tree.specs.declared.fault.ProjectFault.{ProjectFault}
+use Rattle.ladder_rules.specs.Verdict.{rule}
+use Rattle.ld_text.specs.Text.{IsReadAs, text_fault, judged}
+use Rattle.ld_text.specs.declared.fault.TextError.{TextError}
+use Rattle.ld_text.specs.declared.fault.TextError.TheVariants as error
 use Rattle.ldmicro_top.specs.declared.status.Status.{Status}
 use Rattle.ldmicro_top.specs.declared.status.Status.TheVariants as status
 use Rattle.ldmicro_top.specs.Command.{Command, Compile, Other}
 
--- a project stands for the text, or its first line with which none does is refused
+-- the text has the fault, or its project breaks a rule with it
+abbrev pub IsRefusedFor : List ℕ → ProjectFault → Type 0
+IsRefusedFor text fault = (text_fault (judged text) ≡ Some fault) ⊎ ((p : Project) × IsReadAs (judged text) p × (rule p ≡ Some fault))
+
+-- a project stands for the text and keeps the rules, or the text is refused
 abbrev pub Answers : List ℕ → Status → Type 0
-Answers text status.Ok = (p : Project) × IsReadAs text p
-Answers text (status.Refused fault) = (line : ℕ) × (fault ≡ NotBuilt line) × IsTextRefusedAt text line
+Answers text status.Ok = (p : Project) × IsReadAs (judged text) p × (rule p ≡ None)
+Answers text (status.Refused fault) = IsRefusedFor text fault
 Answers text _ = ⊥
 
 -- a name that holds nothing is a read fault
@@ -22,6 +29,11 @@ SourceAnswers (Some text) answer = Answers text answer
 abbrev pub Expected : Command → Held → Status → Type 0
 Expected (Compile source dest) held answer = SourceAnswers (held source) answer
 Expected Other held answer = answer ≡ status.Usage
+
+-- why a text is not compiled: want of memory may always be
+abbrev pub IsDeclined : List ℕ → TextError → Type 0
+IsDeclined text (error.Memory e) = ⊤
+IsDeclined text (error.Refused fault) = IsRefusedFor text fault
 
 -- an answer that depends on more than the words and what the names hold
 abbrev pub is_fault : Status → Bool

@@ -1,11 +1,12 @@
 -- What a run answers and leaves.
-use Rattle.std.specs.Prelude.{◌≡◌, ◌≢◌, ◌⊎◌, ℕ, ◌≤◌, Bool, true, false, List, [], ◌++◌, Some}
+use Rattle.std.specs.Prelude.{◌≡◌, ◌≢◌, ◌⊎◌, ℕ, ◌≤◌, Bool, true, false, List, [], ◌++◌, None, Some}
 use Rattle.ld_base.specs.Counts.{Counts, Rose}
 use Rattle.ld_base.specs.Bytes.{Held, SameHeld, HoldsThen}
 use Rattle.ladder_tree.specs.declared.project.Project.{Project}
 use Rattle.ladder_tree.specs.Names.{names_of}
 use Rattle.int_code.specs.Caps.{ops_cap}
-use Rattle.ld_text.specs.Text.{IsReadAs}
+use Rattle.ladder_rules.specs.Verdict.{rule}
+use Rattle.ld_text.specs.Text.{IsReadAs, judged}
 use Rattle.ldmicro_top.specs.declared.status.Status.{Status}
 use Rattle.ldmicro_top.specs.declared.status.Status.TheVariants.{Ok, ReadFault, WriteFault, NoMemory}
 use Rattle.ldmicro_top.specs.Carries.{Carries}
@@ -24,15 +25,20 @@ pub record World : Type 0 where
 abbrev pub IsFrontOf : List ℕ → List ℕ → Type 0
 IsFrontOf front text = (rest : List ℕ) × (text ≡ front ++ rest)
 
--- The text is read as a project, these bytes carry the project, and this is their report.
-pub record IsCompiledText (text code printed : List ℕ) : Type 0 where
-  pub project : Project
-  pub stands : IsReadAs text project
+-- these bytes carry the project, and this is their report
+pub record IsEmitted (project : Project) (code printed : List ℕ) : Type 0 where
   -- the most operations that a cycle executes, which is also how many there are
   pub most : ℕ
   pub carries : Carries project code most
   pub cap : most ≤ ops_cap project.rungs
   pub report : printed ≡ report (names_of project.rungs) most
+
+-- the text is read as a project that keeps the rules, and these bytes are what it is compiled to
+pub record IsCompiledText (text code printed : List ℕ) : Type 0 where
+  pub project : Project
+  pub stands : IsReadAs (judged text) project
+  pub legal : rule project ≡ None
+  pub emitted : IsEmitted project code printed
 
 -- the same of the text that a source holds
 pub record IsCompiled (source : List ℕ) (held : Held) (code printed : List ℕ) : Type 0 where

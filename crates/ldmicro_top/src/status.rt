@@ -4,7 +4,7 @@ ghost use Rattle.std.specs.Prelude.{◌≡◌, IfOk};
 ghost use Rattle.std.specs.String.{string_bytes};
 ghost use Rattle.ldmicro_top.specs.StatusLine.{code_of, line_of, place_of};
 
-use ld_text::fault::ProjectFault;
+use ladder_tree::fault::ProjectFault;
 use std::alloc::{AllocError, Global};
 use std::fmt;
 

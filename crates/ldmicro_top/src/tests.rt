@@ -178,13 +178,75 @@ fn reports_and_refusals(rt: HostRuntime) -> Result<(), Fail> {
         done.printed.as_slice(),
         b"target Interpretable\noperations 8\nram 1 of 8192\neeprom 0 of 512\ncycles 8\n".as_slice()
     );
-    let refused = compile(alloc, "RUNG\nCOMMENT x\nCOIL Yb 0 0 0\nEND\n", 0, 0)?;
+    let refused = compile(alloc, "RUNG\nFORMATTED_STRING n 0\nEND\n", 0, 0)?;
     assert_eq!(rt;
         refused.printed.as_slice(),
         b"refused 27 NotBuilt line 12\n".as_slice()
     );
     assert_eq!(rt; refused.code.as_slice(), b"old".as_slice());
     assert_eq!(rt; refused.status.code(), 2);
+    Ok(())
+}
+
+/// What `/c a b` prints where `a` holds the text.
+fn printed(alloc: Global, text: &str) -> Result<Vec<u8>, AllocError> {
+    let mut files = MemFiles::new(alloc);
+    let mut out = MemOut::new(alloc);
+    files.put("a", text.as_bytes())?;
+    let words = words(alloc, &["/c", "a", "b"])?;
+    run(alloc, &words, &mut files, &mut out);
+    Vec::from_slice(alloc, out.bytes())
+}
+
+#[test]
+fn texts_that_are_refused(rt: HostRuntime) -> Result<(), Fail> {
+    let rows = [
+        ("", "refused 1 NotProject line 1\n"),
+        (
+            "LDmicro0.1\nMICRO=Atmel AVR ATmega162 40-PDIP\n",
+            "refused 7 UnknownChip line 2\n",
+        ),
+        (
+            "LDmicro0.1\nMICRO=Atmel AVR ATmega16 40-PDIP\n",
+            "refused 27 NotBuilt line 2\n",
+        ),
+        (
+            "LDmicro0.1\nMICRO=Interpretable Byte Code\nCYCLE=1000000000\n",
+            "refused 8 NumberRange line 3\n",
+        ),
+        (
+            "LDmicro0.1\nMICRO=Interpretable\nCYCLE=0\nPROGRAM\n",
+            "refused 21 CycleRange line 0\n",
+        ),
+    ];
+    for (text, want) in rows {
+        let found = printed(rt.alloc(), text)?;
+        assert_eq!(rt; found.as_slice(), want.as_bytes(), "at {text:?}");
+    }
+    Ok(())
+}
+
+#[test]
+fn ladders_that_are_refused(rt: HostRuntime) -> Result<(), Fail> {
+    let rows = [
+        ("RUNG\n", "refused 6 Unclosed line 12\n"),
+        (
+            "RUNG\nCOIL Yb 0 0 0\nCONTACTS Xa 0\nEND\n",
+            "refused 9 NotRightmost line 12\n",
+        ),
+        (
+            "RUNG\nCONTACTS Xa 0\nCOIL Xb 0 0 0\nEND\n",
+            "refused 10 WrongKind line 13\n",
+        ),
+        ("RUNG\nPLACEHOLDER\nEND\n", "refused 10 WrongKind line 12\n"),
+    ];
+    for (rungs, want) in rows {
+        let left = compile(rt.alloc(), rungs, 0, 0)?;
+        assert_eq!(rt; left.printed.as_slice(), want.as_bytes(), "at {rungs:?}");
+        assert_eq!(rt; left.code.as_slice(), b"old".as_slice());
+    }
+    let branches = "RUNG\nPARALLEL\nCOIL Yb 0 0 0\nCONTACTS Xa 0\nEND\nEND\n";
+    assert_eq!(rt; compile(rt.alloc(), branches, 0, 0)?.status, Status::Ok);
     Ok(())
 }
 

@@ -1,0 +1,168 @@
+-- What a project within the limits needs is a small number.
+use Rattle.std.proofs.Common.{◌≡◌, ℕ, ◌+◌, ◌*◌, ◌≤◌, Bool, true, false, ◌&&◌, cond, nat_le, List, [], ◌∷◌, ◌++◌, length, map, refl, arith, length-append}
+use Rattle.std.specs.List.{All, list_any}
+use Rattle.std.proofs.lemmas.Bool.Decides.{nat_tests}
+use Rattle.std.proofs.lemmas.List.Elements.{All-nil, All-cons, All-head, All-tail}
+use Rattle.std.proofs.lemmas.List.Sums.{sum_by-cons}
+use Rattle.std.proofs.lemmas.List.{length-map}
+use Rattle.chip_tables.specs.Cost.{cost_of}
+use Rattle.chip_tables.specs.declared.cost_kind.CostKind.{CostKind}
+use Rattle.chip_tables.specs.declared.cost_kind.CostKind.TheVariants as cost
+use Rattle.chip_tables.specs.declared.cost_kind.Cost.{Cost}
+use Rattle.chip_tables.specs.declared.target.Target.{Target}
+use Rattle.chip_tables.specs.declared.target.Target.TheVariants.{F628, F877, Mega16, Interp, AnsiC}
+use Rattle.ladder_tree.specs.Induct.{Each, node_ind}
+use Rattle.ladder_tree.specs.Leaves.{leaves, leaves_in, leaves_step, all_leaves}
+use Rattle.ladder_tree.specs.declared.element.Leaf as element
+use Rattle.ladder_tree.specs.declared.element.LeafKind.{LeafKind}
+use Rattle.ladder_tree.specs.declared.element.LeafKind.TheVariants.{Shift}
+use Rattle.ladder_tree.specs.declared.project.Node.{Node}
+use Rattle.ladder_tree.specs.declared.project.Rung.{Rung}
+use Rattle.ladder_tree.specs.Forms.{forms_of, forms_in, forms_step, forms_of_all}
+use Rattle.ladder_rules.specs.Limits.{IsShort, IsWithinLimits, extent}
+use Rattle.ladder_rules.specs.Needs.{row_of_element, steps, fixed, growing, element_cost, cost_step, node_cost, nodes_cost, rungs_cost, total, uses, feature, feature_words}
+use Rattle.ladder_rules.specs.declared.cost.Column.{Column}
+use Rattle.ladder_rules.specs.declared.cost.Column.TheVariants.{Words, Cycles, Ops}
+use Rattle.ladder_rules.proofs.FoldLemmas.{fold-Leaf, fold-Series, fold-Parallel}
+
+record IsLow (c : Cost) : Type 0 where
+  words : c.words ≤ 5000
+  cycles : c.cycles ≤ 5000
+  ops : c.ops ≤ 5000
+  words_each : c.words_each ≤ 24
+  cycles_each : c.cycles_each ≤ 24
+  ops_each : c.ops_each ≤ 24
+
+is_low : Cost → Bool
+is_low c = nat_le c.words 5000 && (nat_le c.cycles 5000 && (nat_le c.ops 5000 && (nat_le c.words_each 24 && (nat_le c.cycles_each 24 && nat_le c.ops_each 24))))
+
+both_hold : (a b : Bool) → (a && b) ≡ true → (a ≡ true) × (b ≡ true)
+both_hold true b t = (refl, t)
+both_hold false b t = let clash : ⊥ = cc in absurd clash
+
+within : (a b : ℕ) → nat_le a b ≡ true → a ≤ b
+within a b t = grind (arith, nat_tests, t)
+
+low : (c : Cost) → is_low c ≡ true → IsLow c
+unfolding is_low
+low c t =
+    let a = both_hold (nat_le c.words 5000) _ t in
+    let b = both_hold (nat_le c.cycles 5000) _ a.1 in
+    let d = both_hold (nat_le c.ops 5000) _ b.1 in
+    let e = both_hold (nat_le c.words_each 24) _ d.1 in
+    let f = both_hold (nat_le c.cycles_each 24) (nat_le c.ops_each 24) e.1 in
+    record {
+      words = within c.words 5000 a.0;
+      cycles = within c.cycles 5000 b.0;
+      ops = within c.ops 5000 d.0;
+      words_each = within c.words_each 24 e.0;
+      cycles_each = within c.cycles_each 24 f.0;
+      ops_each = within c.ops_each 24 f.1;
+    }
+
+all_low : (t : Target) (k : CostKind) → is_low (cost_of t k) ≡ true
+unfolding is_low
+all_low F628 cost.Base = refl
+all_low F628 _ = refl
+all_low F877 cost.Base = refl
+all_low F877 _ = refl
+all_low Mega16 cost.Base = refl
+all_low Mega16 _ = refl
+all_low Interp cost.Base = refl
+all_low Interp _ = refl
+all_low AnsiC cost.Base = refl
+all_low AnsiC _ = refl
+
+cost_low : (t : Target) (k : CostKind) → IsLow (cost_of t k)
+cost_low t k = low (cost_of t k) (all_low t k)
+
+fixed_low : (c : Column) (t : Target) (k : CostKind) → fixed c t k ≤ 5000
+fixed_low Words t k = (cost_low t k).words
+fixed_low Cycles t k = (cost_low t k).cycles
+fixed_low Ops t k = (cost_low t k).ops
+
+times_low : (a b m n : ℕ) → a ≤ m → b ≤ n → a * b ≤ m * n
+times_low a b m n h k = grind arith
+
+fewer : (k : LeafKind) → steps k ≤ extent k
+fewer (Shift name places) = omega arith
+fewer _ = omega arith
+
+growing_low : (c : Column) (t : Target) (k : LeafKind) → extent k ≤ 60 → growing c t k ≤ 1440
+growing_low Words t k h = let f = fewer k in times_low _ (steps k) 24 60 (cost_low t (row_of_element k)).words_each (omega arith)
+growing_low Cycles t k h = let f = fewer k in times_low _ (steps k) 24 60 (cost_low t (row_of_element k)).cycles_each (omega arith)
+growing_low Ops t k h = times_low _ (extent k) 24 60 (cost_low t (row_of_element k)).ops_each h
+
+all_front : (a b : List element.Leaf) → All IsShort (a ++ b) → All IsShort a
+all_front [] b h = All-nil IsShort
+all_front (l ∷ a) b h = All-cons IsShort l a (All-head IsShort l (a ++ b) h) (all_front a b (All-tail IsShort l (a ++ b) h))
+
+all_back : (a b : List element.Leaf) → All IsShort (a ++ b) → All IsShort b
+all_back [] b h = h
+all_back (l ∷ a) b h = all_back a b (All-tail IsShort l (a ++ b) h)
+
+module _ (c : Column) (t : Target) where
+  abbrev IsCheap : Node → Type 0
+  IsCheap n = All IsShort (leaves n) → node_cost c t n + 5000 ≤ 20000 * (length (leaves n) + forms_of n)
+
+  list_cheap : (ns : List Node) → Each IsCheap ns → All IsShort (leaves_in ns) → nodes_cost c t ns + 5000 * length ns ≤ 20000 * (length (leaves_in ns) + forms_in ns)
+  list_cheap [] h short = omega arith
+  list_cheap (n ∷ ns) h short =
+      let f = h.0 (all_front (leaves n) (leaves_in ns) short) in
+      let k = list_cheap ns h.1 (all_back (leaves n) (leaves_in ns) short) in
+      omega (arith, f, k, length-append (leaves n) (leaves_in ns), sum_by-cons (λ x. x) (node_cost c t n) (map (node_cost c t) ns), sum_by-cons (λ x. x) (forms_of n) (map forms_of ns))
+
+  leaf_cheap : (l : element.Leaf) → All IsShort (l ∷ []) → element_cost c t l.kind + 5000 ≤ 20000 * (1 + 0)
+  leaf_cheap l short =
+      let f = fixed_low c t (row_of_element l.kind) in
+      let g = growing_low c t l.kind (All-head IsShort l [] short) in
+      omega (arith, f, g)
+
+  parallel_cheap : (ns : List Node) → Each IsCheap ns → All IsShort (leaves_in ns) → fixed c t cost.Parallel + (fixed c t cost.Branch * length (map (node_cost c t) ns) + nodes_cost c t ns) + 5000 ≤ 20000 * (length (leaves_in ns) + (1 + forms_in ns))
+  parallel_cheap ns h short =
+      let k = list_cheap ns h short in
+      let f = fixed_low c t cost.Parallel in
+      let size = length-map ns (node_cost c t) in
+      let g = times_low (fixed c t cost.Branch) (length (map (node_cost c t) ns)) 5000 (length ns) (fixed_low c t cost.Branch) (omega (arith, size)) in
+      omega (arith, k, f, g)
+
+  node_cheap : (n : Node) → IsCheap n
+  node_cheap = node_ind IsCheap
+      (λ l. rw (fold-Leaf ℕ (cost_step c t) l, fold-Leaf (List element.Leaf) leaves_step l, fold-Leaf ℕ forms_step l) (leaf_cheap l))
+      (λ ns h. rw (fold-Series ℕ (cost_step c t) ns, fold-Series (List element.Leaf) leaves_step ns, fold-Series ℕ forms_step ns) (λ short. let k = list_cheap ns h short in omega (arith, k)))
+      (λ ns h. rw (fold-Parallel ℕ (cost_step c t) ns, fold-Parallel (List element.Leaf) leaves_step ns, fold-Parallel ℕ forms_step ns) (parallel_cheap ns h))
+
+  each_cheap : (ns : List Node) → Each IsCheap ns
+  each_cheap [] = tt
+  each_cheap (n ∷ ns) = (node_cheap n, each_cheap ns)
+
+  rungs_cheap : (gs : List Rung) → All IsShort (all_leaves gs) → rungs_cost c t gs ≤ 5000 * length gs + 20000 * (length (all_leaves gs) + forms_of_all gs)
+  rungs_cheap [] short = omega arith
+  rungs_cheap (g ∷ gs) short =
+      let f = list_cheap g.nodes (each_cheap g.nodes) (all_front (leaves_in g.nodes) (all_leaves gs) short) in
+      let k = rungs_cheap gs (all_back (leaves_in g.nodes) (all_leaves gs) short) in
+      let r = fixed_low c t cost.Rung in
+      omega (arith, f, k, r, length-append (leaves_in g.nodes) (all_leaves gs))
+
+  pub total_small : (gs : List Rung) → IsWithinLimits gs → total c t gs ≤ 200000000
+  total_small gs h =
+      let k = rungs_cheap gs h.extents in
+      let r = fixed_low c t cost.Base in
+      omega (arith, k, r, h.rungs, h.elements, h.forms)
+
+feature_by : (b : Bool) (n : ℕ) → n ≤ 5000 → cond b n 0 ≤ 5000
+feature_by true n h = h
+feature_by false n h = omega arith
+
+feature_low : (t : Target) (ls : List element.Leaf) (k : CostKind) → feature t ls k ≤ 5000
+feature_low t ls k = feature_by (list_any (λ l. uses k l.kind) ls) (fixed Words t k) (fixed_low Words t k)
+
+pub features_small : (t : Target) (ls : List element.Leaf) → feature_words t ls ≤ 30000
+features_small t ls =
+    let a = feature_low t ls cost.MulFeature in
+    let b = feature_low t ls cost.DivFeature in
+    let d = feature_low t ls cost.PersistFeature in
+    let e = feature_low t ls cost.UartFeature in
+    let f = feature_low t ls cost.AdcFeature in
+    let g = feature_low t ls cost.PwmFeature in
+    omega (arith, a, b, d, e, f, g)

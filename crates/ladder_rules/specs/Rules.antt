@@ -1,0 +1,103 @@
+-- The rules for single elements.
+use Rattle.std.specs.Prelude.{ℕ, ◌/◌, nat_eq, nat_lt, Bool, true, false, not, ◌&&◌, ◌||◌, List, [], ◌∷◌, Option, Some, None}
+use Rattle.std.specs.Bool.{then_some}
+use Rattle.std.specs.List.{find}
+use Rattle.std.specs.Option.{option_map, option_or}
+use Rattle.std.specs.Str.{bytes_eq}
+use Rattle.ladder_tree.specs.Leaves.{all_leaves}
+use Rattle.ladder_tree.specs.Names.{begins_with, is_input, is_output, is_relay}
+use Rattle.ladder_tree.specs.declared.element.CounterHow.TheVariants.{Ctc}
+use Rattle.ladder_tree.specs.declared.element.Leaf as element
+use Rattle.ladder_tree.specs.declared.element.LeafKind.{LeafKind}
+use Rattle.ladder_tree.specs.declared.element.LeafKind.TheVariants.{Contacts, Coil, MasterRelay, Placeholder, Timer, Counter, Reset, Move, Math, Shift, Table, ReadAdc, SetPwm, Persist}
+use Rattle.ladder_tree.specs.declared.fault.ProjectFault.{ProjectFault}
+use Rattle.ladder_tree.specs.declared.fault.ProjectFault.TheVariants as fault
+use Rattle.ladder_tree.specs.declared.project.Project.{Project}
+use Rattle.ladder_rules.specs.Places.{Spot}
+use Rattle.ladder_rules.specs.declared.rule.ElementRule.{ElementRule}
+use Rattle.ladder_rules.specs.declared.rule.ElementRule.TheVariants.{NotRightmost, WrongKind, TimerTwice, TimerShort, TimerLong, PwmTwoRates}
+
+-- the elements that must stand at the right end
+abbrev pub ends_rung : LeafKind → Bool
+ends_rung (Coil name mode) = true
+ends_rung (Counter Ctc name max) = true
+ends_rung (Reset name) = true
+ends_rung (Move dest src) = true
+ends_rung (Math how dest a b) = true
+ends_rung (Shift name places) = true
+ends_rung (Table dest index as_text values) = true
+ends_rung (Persist name) = true
+ends_rung MasterRelay = true
+ends_rung _ = false
+
+-- 84 is T
+abbrev pub is_timer : List ℕ → Bool
+is_timer name = begins_with 84 name
+
+-- 67 is C
+abbrev pub is_counter : List ℕ → Bool
+is_counter name = begins_with 67 name
+
+-- 65 is A
+abbrev pub is_analog : List ℕ → Bool
+is_analog name = begins_with 65 name
+
+-- whether an element's name begins with a letter of its kind; a placeholder is of no kind
+abbrev pub is_of_kind : LeafKind → Bool
+is_of_kind (Contacts name neg) = is_input name || (is_output name || is_relay name)
+is_of_kind (Coil name mode) = is_output name || is_relay name
+is_of_kind (Timer how name delay) = is_timer name
+is_of_kind (Counter how name max) = is_counter name
+is_of_kind (Reset name) = is_timer name || is_counter name
+is_of_kind (ReadAdc name) = is_analog name
+is_of_kind Placeholder = false
+is_of_kind _ = true
+
+abbrev pub is_timer_of : List ℕ → LeafKind → Bool
+is_timer_of name (Timer how other delay) = bytes_eq name other
+is_timer_of name _ = false
+
+-- the first timer with a name
+abbrev pub first_timer : List ℕ → List element.Leaf → Option element.Leaf
+first_timer name ls = find (λ l. is_timer_of name l.kind) ls
+
+-- the earlier timer with an element's name, where the element is a timer
+abbrev pub earlier_timer : LeafKind → List element.Leaf → Option element.Leaf
+earlier_timer (Timer how name delay) before = first_timer name before
+earlier_timer _ before = None
+
+-- how many cycles a timer's delay has, both in microseconds
+abbrev pub period : ℕ → ℕ → ℕ
+period cycle delay = delay / cycle
+
+abbrev pub is_short : ℕ → LeafKind → Bool
+is_short cycle (Timer how name delay) = not (nat_eq cycle 0) && nat_eq (period cycle delay) 0
+is_short cycle _ = false
+
+abbrev pub is_long : ℕ → LeafKind → Bool
+is_long cycle (Timer how name delay) = not (nat_eq cycle 0) && nat_lt 32767 (period cycle delay)
+is_long cycle _ = false
+
+-- the hertz of a SET_PWM
+abbrev pub rate_of : LeafKind → Option ℕ
+rate_of (SetPwm name hz) = Some hz
+rate_of _ = None
+
+-- the hertz of the first SET_PWM
+abbrev pub first_rate : List element.Leaf → Option ℕ
+first_rate [] = None
+first_rate (l ∷ ls) = option_or (rate_of l.kind) (first_rate ls)
+
+-- whether both are rates, and not the same
+abbrev pub are_apart : Option ℕ → Option ℕ → Bool
+are_apart (Some hz) (Some other) = not (nat_eq hz other)
+are_apart _ _ = false
+
+-- The fault of an element in its place, where it breaks the rule.
+abbrev pub fault_of : ElementRule → Project → Spot → Option ProjectFault
+fault_of NotRightmost p s = then_some (ends_rung s.leaf.kind && not s.at_right_end) (fault.NotRightmost s.leaf.line)
+fault_of WrongKind p s = then_some (not (is_of_kind s.leaf.kind)) (fault.WrongKind s.leaf.line)
+fault_of TimerTwice p s = option_map (λ l. fault.TimerTwice s.leaf.line l.line) (earlier_timer s.leaf.kind s.before)
+fault_of TimerShort p s = then_some (is_short p.cycle s.leaf.kind) (fault.TimerShort s.leaf.line)
+fault_of TimerLong p s = then_some (is_long p.cycle s.leaf.kind) (fault.TimerLong s.leaf.line)
+fault_of PwmTwoRates p s = then_some (are_apart (rate_of s.leaf.kind) (first_rate (all_leaves p.rungs))) (fault.PwmTwoRates s.leaf.line)

@@ -1,0 +1,71 @@
+//! What a project needs at most.
+
+ghost use Rattle.std.specs.Prelude.{◌≡◌};
+ghost use Rattle.ladder_tree.specs.Leaves.{all_leaves};
+ghost use Rattle.ladder_rules.specs.Needs.{feature, feature_words, word_need, cycle_cap, boot_cap};
+
+use crate::cost::{Column, fixed, total};
+use crate::legal::Legal;
+use crate::survey::{any_uses, count_tofs};
+use chip_tables::{CostKind, Target};
+use ladder_tree::project::Project;
+
+/// The most words of program flash that a chip's code has: 0 where the target is no chip. It takes no memory.
+pub fn word_need(legal: &Legal) -> u32
+    ensures { result ≡ word_need legal.now.project }
+{
+    let project = legal.project();
+    total(Column::Words, project.target, project.rungs.as_slice()) + feature_words(project)
+}
+
+/// What the features that a project uses cost, each once.
+fn feature_words(project: &Project) -> u32
+    ensures { result ≡ feature_words project.now.target (all_leaves project.now.rungs) }
+{
+    feature(CostKind::MulFeature, project)
+        + (feature(CostKind::DivFeature, project)
+            + (feature(CostKind::PersistFeature, project)
+                + (feature(CostKind::UartFeature, project)
+                    + (feature(CostKind::AdcFeature, project)
+                        + feature(CostKind::PwmFeature, project)))))
+}
+
+/// The words of a feature, where the project uses it.
+fn feature(row: CostKind, project: &Project) -> u32
+    ensures { result ≡ feature project.now.target (all_leaves project.now.rungs) row }
+{
+    if any_uses(row, project.rungs.as_slice()) {
+        fixed(Column::Words, project.target, row)
+    } else {
+        0
+    }
+}
+
+/// The most instruction cycles in a cycle of the ladder, on a chip, or operations of the interpreter. It takes no memory.
+pub fn cycle_cap(legal: &Legal) -> u32
+    ensures { result ≡ cycle_cap legal.now.project }
+{
+    let project = legal.project();
+    let rungs = project.rungs.as_slice();
+    match project.target {
+        Target::F628 | Target::F877 | Target::Mega16 => {
+            total(Column::Cycles, project.target, rungs)
+        }
+        Target::Interp => total(Column::Ops, project.target, rungs),
+        Target::AnsiC => 0,
+    }
+}
+
+/// The most instruction cycles of a chip before the first cycle of the ladder. It takes no memory.
+pub fn boot_cap(legal: &Legal) -> u32
+    ensures { result ≡ boot_cap legal.now.project }
+{
+    let project = legal.project();
+    let plain = match project.target {
+        Target::F628 => 4000,
+        Target::F877 => 6000,
+        Target::Mega16 => 14000,
+        Target::Interp | Target::AnsiC => return 0,
+    };
+    plain + 20 * count_tofs(project.rungs.as_slice())
+}

@@ -1,0 +1,4 @@
+pub mod DigitLemmas
+pub mod KeyLemmas
+pub mod CutLemmas
+pub mod WordLemmas

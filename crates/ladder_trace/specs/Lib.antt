@@ -1,0 +1,5 @@
+pub mod Shown
+pub mod Token
+pub mod Line
+pub mod Trace
+pub mod Held

@@ -1,0 +1,45 @@
+-- What a trace says: its steps and its EEPROM, or the first line at which it is refused.
+use Rattle.std.specs.Prelude.{◌≡◌, ℕ, ◌+◌, Bool, true, false, List, [], ◌∷◌, length, take, nat_lt, Option, None, Some, Result, Ok, Err}
+use Rattle.ld_base.specs.Lines.{lines}
+use Rattle.ladder_tree.specs.declared.names.Names.{Names}
+use Rattle.ladder_trace.specs.declared.trace.Trace.{Trace}
+use Rattle.ladder_trace.specs.declared.trace.TraceError.{TraceError}
+use Rattle.ladder_trace.specs.declared.trace.TraceError.TheVariants.{Fault, Memory}
+use Rattle.ladder_trace.specs.Line.{Draft, start, line_says}
+
+abbrev pub or_refused : {A : Type 0} → ℕ → (Draft → Result A ℕ) → Option Draft → Result A ℕ
+or_refused line go_on None = Err line
+or_refused line go_on (Some d) = go_on d
+
+-- The lines behind so many others, which made the draft. Lines are counted from 1.
+abbrev pub read_from : Names → ℕ → Draft → List (List ℕ) → Result Draft ℕ
+read_from n passed d [] = Ok d
+read_from n passed d (l ∷ ls) = or_refused (passed + 1) (λ e. read_from n (passed + 1) e ls) (line_says n d l)
+
+abbrev pub read : Names → List (List ℕ) → Result Draft ℕ
+read n ls = read_from n 0 (start n) ls
+
+-- how many bytes a trace may have
+abbrev pub most_bytes : ℕ
+most_bytes = 8388608
+
+-- the bytes by which a trace is judged
+abbrev pub judged : List ℕ → List ℕ
+judged text = take (most_bytes + 1) text
+
+abbrev pub trace_of : Draft → Trace
+trace_of d = record { eeprom = d.eeprom; steps = d.steps }
+
+-- over: the trace is longer than it may be, and its last line here holds the first byte past that
+abbrev pub verdict_by : Bool → ℕ → Result Draft ℕ → Result Trace ℕ
+verdict_by over count (Err line) = Err line
+verdict_by true count (Ok d) = Err count
+verdict_by false count (Ok d) = Ok (trace_of d)
+
+abbrev pub verdict : Names → List ℕ → Result Trace ℕ
+verdict n text = verdict_by (nat_lt most_bytes (length text)) (length (lines (judged text))) (read n (lines (judged text)))
+
+-- a fault names the line at which the trace is refused, and memory may be refused at any time
+abbrev pub IsCaused : Names → List ℕ → TraceError → Type 0
+IsCaused n text (Fault line) = verdict n text ≡ Err line
+IsCaused n text (Memory e) = Unit {0}

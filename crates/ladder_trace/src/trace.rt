@@ -1,0 +1,113 @@
+//! Reading a trace.
+
+ghost use Rattle.std.specs.Prelude.{◌≡◌, ◌+◌, ◌≤◌, ◌<◌, ◌^◌, length, Ok, IfOk, IfErr};
+ghost use Rattle.ld_base.specs.Lines.{lines};
+ghost use Rattle.ladder_trace.specs.Trace.{verdict, judged, most_bytes, IsCaused};
+ghost use Rattle.ladder_trace.specs.Held.{IsOutcome};
+
+use crate::reader::Reader;
+use ladder_meaning::reading::Reading;
+use ladder_tree::element::Bytes;
+use ladder_tree::names::Names;
+use ld_base::lines::split_line;
+use ld_base::list::List;
+use std::alloc::{AllocError, Global};
+use thiserror::Error;
+
+/// How many bytes a trace may have.
+const MOST_BYTES: usize = 8_388_608;
+
+/// A reading, and for how many cycles it holds: 1 to 100,000.
+#[derive(Debug, Drop)]
+pub struct Step {
+    pub times: u32,
+    pub reading: Reading,
+}
+
+/// Steps in order.
+pub type Steps = List<Step>;
+
+/// The EEPROM that a run begins with, and its readings.
+#[derive(Debug, Drop)]
+pub struct Trace {
+    /// 512 bytes: FFh where the trace gives none.
+    pub eeprom: Bytes,
+    /// At most 100,000 cycles in all.
+    pub steps: Steps,
+}
+
+/// Why a trace is not read.
+#[derive(Debug, Drop, Error)]
+pub enum TraceError {
+    /// The first line that is refused, counted from 1.
+    #[error("line {line} is refused")]
+    Fault { line: u32 },
+    #[error(transparent)]
+    Memory(AllocError),
+}
+
+/// How far lines were read.
+#[derive(Drop)]
+pub enum Outcome {
+    /// All were read: so many.
+    All { reader: Reader, count: u32 },
+    /// The line of this number was refused.
+    Stopped { line: u32 },
+}
+
+/// The steps of a trace and its EEPROM, for a project with the names. A name is looked for by going through the list of
+/// its kind.
+pub fn read_trace(alloc: Global, names: &Names, text: &[u8]) -> Result<Trace, TraceError>
+    ensures trace { IfOk result (λ trace. verdict names.now text.now ≡ Ok trace) }
+    ensures error { IfErr result (λ e. IsCaused names.now text.now e) }
+{
+    let outcome = match read_lines(alloc, names, judged(text)) {
+        Ok(outcome) => outcome,
+        Err(e) => return Err(TraceError::Memory(e)),
+    };
+    match outcome {
+        Outcome::Stopped { line } => Err(TraceError::Fault { line }),
+        Outcome::All { reader, count } => {
+            if text.len() > MOST_BYTES {
+                return Err(TraceError::Fault { line: count });
+            }
+            Ok(Trace {
+                eeprom: reader.eeprom,
+                steps: reader.steps,
+            })
+        }
+    }
+}
+
+/// The bytes by which a trace is judged: one more than it may have tells that it is too long.
+fn judged(text: &[u8]) -> &[u8]
+    ensures front { result.now ≡ judged text.now }
+    ensures short { length result.now ≤ most_bytes + 1 }
+{
+    if text.len() > MOST_BYTES {
+        &text[..MOST_BYTES + 1]
+    } else {
+        text
+    }
+}
+
+/// Reads lines up to the first that is refused, or to the end.
+fn read_lines(alloc: Global, names: &Names, text: &[u8]) -> Result<Outcome, AllocError>
+    requires { length text.now < 2 ^ 32 }
+    ensures { IfOk result (λ o. IsOutcome names.now (lines text.now) o) }
+{
+    let mut reader = Reader::new(alloc, names)?;
+    let mut rest = text;
+    let mut line = 0;
+    while let Some((bytes, behind)) = split_line(rest) {
+        line += 1;
+        if !reader.read(alloc, names, bytes)? {
+            return Ok(Outcome::Stopped { line });
+        }
+        rest = behind;
+    }
+    Ok(Outcome::All {
+        reader,
+        count: line,
+    })
+}

@@ -1,0 +1,6 @@
+pub mod TokenLemmas
+pub mod NumberLemmas
+pub mod HeaderLemmas
+pub mod ElementLemmas
+pub mod SaidLemmas
+pub mod RangeLemmas

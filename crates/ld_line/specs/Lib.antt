@@ -1,0 +1,10 @@
+pub mod Said
+pub mod Tokens
+pub mod Numbers
+pub mod Operands
+pub mod Words
+pub mod Elements
+pub mod Header
+pub mod Pins
+pub mod Rungs
+pub mod Range

@@ -1,0 +1,426 @@
+-- What is known of the lines of a text that has no fault.
+use Rattle.std.proofs.Common.{◌≡◌, ◌&&◌, ◌||◌, eqb, ltb, ℕ, zero, suc, ◌+◌, ◌-◌, ◌≤◌, nat_le, Bool, true, false, not, if◌then◌else◌, List, [], ◌∷◌, drop, length, map, reverse, codes, Option, Some, None, refl, sym, ap, subst, ◌∙◌, arith, length-drop}
+use Rattle.std.specs.List.{list_all}
+use Rattle.std.specs.Str.{bytes_eq}
+use Rattle.std.proofs.lemmas.Bool.Decides.{nat_tests}
+use Rattle.std.proofs.lemmas.List.{reverse-append, length-reverse}
+use Rattle.chip_tables.specs.declared.target.Target.{Target}
+use Rattle.chip_tables.specs.declared.target.Target.TheVariants.{F628, F877, Mega16, Interp, AnsiC}
+use Rattle.ladder_tree.specs.declared.element.Leaf as leaf
+use Rattle.ladder_tree.specs.declared.element.LeafKind.{LeafKind}
+use Rattle.ladder_tree.specs.declared.element.LeafKind.TheVariants as kind
+use Rattle.ladder_tree.specs.declared.fault.ProjectFault.{ProjectFault}
+use Rattle.ladder_tree.specs.declared.project.PinLine as pin
+use Rattle.ladder_tree.specs.Names.{is_name}
+use Rattle.ld_base.specs.Lines.{IsLine}
+use Rattle.ld_line.proofs.RangeLemmas.{in_their_ranges, pins_in_range, settings_in_range}
+use Rattle.ld_line.specs.Elements.{contacts, coil, element_of}
+use Rattle.ld_line.specs.Header.{header_of}
+use Rattle.ld_line.specs.Numbers.{most_setting, most_pin, natural_in}
+use Rattle.ld_line.specs.Operands as read
+use Rattle.ld_line.specs.Pins.{pin_line, pin_of_line}
+use Rattle.ld_line.specs.Range.{is_read_setting}
+use Rattle.ld_line.specs.Said.{bare, said_map, both}
+use Rattle.ld_line.specs.Tokens.{is_blank, is_return, behind, before, tokens, comment_text}
+use Rattle.ld_line.specs.Words.{word_of, is_bit_word, is_target_built}
+use Rattle.ld_line.specs.declared.said.Said.{Said}
+use Rattle.ld_line.specs.declared.said.Said.TheVariants.{Bad, Range, Is}
+use Rattle.ld_line.specs.declared.header.HeaderLine.{HeaderLine}
+use Rattle.ld_line.specs.declared.header.HeaderLine.TheVariants as header
+use Rattle.ld_line.specs.declared.pins.PinsLine.{PinsLine}
+use Rattle.ld_line.specs.declared.pins.PinsLine.TheVariants as pins
+use Rattle.ld_line.specs.declared.word.Word.{Word}
+use Rattle.ld_line.specs.declared.word.Word.TheVariants as word
+use Rattle.ld_text.specs.declared.form.Mark.TheVariants as mark
+use Rattle.ld_text.specs.declared.form.Form.{Form}
+use Rattle.ld_text.specs.declared.form.Form.TheVariants.{Blank, Magic, Header, Pins, Body}
+use Rattle.ld_text.specs.declared.place.Place.{Place}
+use Rattle.ld_text.specs.declared.place.Site.{Site}
+use Rattle.ld_text.specs.declared.place.Site.TheVariants as site
+use Rattle.ld_text.specs.Lines.{Line, size_of}
+use Rattle.ld_text.specs.Place.{unless_blank, said_in, said_at, behind_form, behind_said, behind_all}
+use Rattle.ld_text.specs.Place as place
+use Rattle.ld_text.specs.Faults.{is_first, has_unbuilt_word, begins_unbuilt, names_unbuilt, is_bad, is_out_of_range, is_too_deep, is_one_too_many, fault_of, fault_at, first_fault, or_else}
+use Rattle.ld_text.specs.Text.{unblanked, said_by}
+use Rattle.ld_text.proofs.TakenLemmas.{Passes, passes}
+use Rattle.ld_text.proofs.SaidLemmas.{AllowedAt, allowed, element_worded, worded_bits, IsBuilt}
+use Rattle.ld_print.proofs.TokenLemmas.{both_true, ends, ends-append}
+use Rattle.ld_print.proofs.ElementLemmas.{not_feed, clean_line, clean_both, FitsLine, TextFits, IsPrintable}
+use Rattle.ld_print.proofs.HeadLemmas.{PinFits}
+
+-- a form that is said again where it is printed
+abbrev pub FormFits : Form → Type 0
+FormFits Blank = Unit {0}
+FormFits Magic = Unit {0}
+FormFits (Header (header.Micro (Some t))) = is_target_built t ≡ true
+FormFits (Header (header.Micro None)) = Unit {0}
+FormFits (Header (header.Cycle n)) = n ≤ most_setting
+FormFits (Header (header.Crystal n)) = n ≤ most_setting
+FormFits (Header (header.Baud n)) = n ≤ most_setting
+FormFits (Header header.Compiled) = Unit {0}
+FormFits (Header header.Pins) = Unit {0}
+FormFits (Header header.Program) = Unit {0}
+FormFits (Pins (pins.Pin p)) = PinFits p
+FormFits (Pins pins.End) = Unit {0}
+FormFits (Body mark.Rung) = Unit {0}
+FormFits (Body (mark.Open c)) = Unit {0}
+FormFits (Body mark.End) = Unit {0}
+FormFits (Body (mark.Element l)) = IsPrintable l.kind
+
+pub record Fine (p : Place) (f : Form) : Type 0 where
+  pub allowed : AllowedAt p.site f
+  pub shallow : is_too_deep p (Is f) ≡ false
+  pub few : is_one_too_many p (Is f) ≡ false
+  pub fits : FormFits f
+
+abbrev pub AllFine : Place → List Form → Type 0
+AllFine p [] = p.site ≡ site.Between
+AllFine p (f ∷ fs) = Fine p f × AllFine (behind_form p f) fs
+
+-- a place but for the bytes in front of it
+abbrev pub unsized : Place → Place
+unsized p = record p { bytes = 0 }
+
+-- comments
+
+ends_before : (test : ℕ → Bool) (bs : List ℕ) → ends test (before test bs) ≡ true
+ends_before test bs = by (reverse bs)
+  where
+    turned : (b : Bool) (r : ℕ) (rs : List ℕ) → test r ≡ b → ends test (reverse (behind test rs)) ≡ true → ends test (reverse (if b then behind test rs else r ∷ rs)) ≡ true
+    turned true r rs e h = h
+    turned false r rs e h = ap (ends test) (reverse-append (r ∷ []) rs) ∙ ends-append test (reverse rs) r [] ∙ ap not e
+
+    by : (rs : List ℕ) → ends test (reverse (behind test rs)) ≡ true
+    by [] = refl
+    by (r ∷ rs) = turned (test r) r rs refl (by rs)
+
+ends_rest : (test : ℕ → Bool) (x : ℕ) (xs : List ℕ) → ends test (x ∷ xs) ≡ true → ends test xs ≡ true
+ends_rest test x [] h = refl
+ends_rest test x (y ∷ ys) h = h
+
+ends_drop : (test : ℕ → Bool) (n : ℕ) (xs : List ℕ) → ends test xs ≡ true → ends test (drop n xs) ≡ true
+ends_drop test zero xs h = h
+ends_drop test (suc n) [] h = refl
+ends_drop test (suc n) (x ∷ xs) h = ends_drop test n xs (ends_rest test x xs h)
+
+-- what stays of a line behind blanks
+record Stays (bs : List ℕ) (xs : List ℕ) : Type 0 where
+  ends : ends is_return bs ≡ true → ends is_return xs ≡ true
+  clean : list_all not_feed bs ≡ true → list_all not_feed xs ≡ true
+  short : length xs ≤ length bs
+
+stays_behind : (bs : List ℕ) → Stays bs (behind is_blank bs)
+stays_behind [] = record { ends = λ h. h; clean = λ h. h; short = omega arith }
+stays_behind (b ∷ bs) = by (is_blank b) (stays_behind bs)
+  where
+    by : (x : Bool) → Stays bs (behind is_blank bs) → Stays (b ∷ bs) (if x then behind is_blank bs else b ∷ bs)
+    by true s = record { ends = λ h. s.ends (ends_rest is_return b bs h); clean = λ h. s.clean (both_true (not_feed b) (list_all not_feed bs) h).1; short = omega (arith, s.short) }
+    by false s = record { ends = λ h. h; clean = λ h. h; short = omega arith }
+
+clean_reverse : (xs : List ℕ) → list_all not_feed xs ≡ true → list_all not_feed (reverse xs) ≡ true
+clean_reverse [] h = refl
+clean_reverse (x ∷ xs) h =
+    let g = both_true (not_feed x) (list_all not_feed xs) h in
+    ap (list_all not_feed) (reverse-append (x ∷ []) xs) ∙ clean_both (reverse xs) (x ∷ []) (clean_reverse xs g.1) (rw g.0 refl)
+
+clean_front : (test : ℕ → Bool) (xs : List ℕ) → list_all not_feed xs ≡ true → (list_all not_feed (behind test xs) ≡ true) × (length (behind test xs) ≤ length xs)
+clean_front test [] h = (refl, omega arith)
+clean_front test (x ∷ xs) h = by (test x) (clean_front test xs (both_true (not_feed x) (list_all not_feed xs) h).1)
+  where
+    by : (b : Bool) → (list_all not_feed (behind test xs) ≡ true) × (length (behind test xs) ≤ length xs) → (list_all not_feed (if b then behind test xs else x ∷ xs) ≡ true) × (length (if b then behind test xs else x ∷ xs) ≤ length (x ∷ xs))
+    by true r = (r.0, omega (arith, r.1))
+    by false r = (h, omega arith)
+
+clean_drop : (n : ℕ) (xs : List ℕ) → list_all not_feed xs ≡ true → list_all not_feed (drop n xs) ≡ true
+clean_drop zero xs h = h
+clean_drop (suc n) [] h = refl
+clean_drop (suc n) (x ∷ xs) h = clean_drop n xs (both_true (not_feed x) (list_all not_feed xs) h).1
+
+comment_stays : (bytes : List ℕ) → length bytes ≤ 512 → IsLine bytes → FitsLine (comment_text bytes)
+comment_stays bytes short clean =
+    let turned = clean_front is_return (reverse bytes) (clean_reverse bytes (clean_line bytes clean)) in
+    let whole = before is_return bytes in
+    let s = stays_behind whole in
+    record {
+      short = omega (arith, length-drop 8 (behind is_blank whole), s.short, length-reverse (behind is_return (reverse bytes)), turned.1, length-reverse bytes);
+      clean = clean_drop 8 (behind is_blank whole) (s.clean (clean_reverse (behind is_return (reverse bytes)) turned.0));
+      ends = ends_drop is_return 8 (behind is_blank whole) (s.ends (ends_before is_return bytes));
+    }
+
+-- elements
+
+text_mapped : {A : Type 0} (make : A → LeafKind) (x : Said A) (k : LeafKind) → ((a : A) → TextFits (make a)) → said_map make x ≡ Is k → TextFits k
+text_mapped make Bad k all h = absurd cc
+text_mapped make Range k all h = absurd cc
+text_mapped make (Is a) k all h = let same : make a ≡ k = cc in subst TextFits same (all a)
+
+text_bare : (made : LeafKind) (ts : List (List ℕ)) (k : LeafKind) → TextFits made → bare made ts ≡ Is k → TextFits k
+text_bare made [] k f h = let same : made ≡ k = cc in subst TextFits same f
+text_bare made (t ∷ ts) k f h = absurd cc
+
+text_contacts : (ts : List (List ℕ)) (k : LeafKind) → contacts ts ≡ Is k → TextFits k
+text_contacts [] k h = absurd cc
+text_contacts (n ∷ []) k h = absurd cc
+text_contacts (n ∷ f ∷ []) k h = text_mapped _ (both (read.name n) (read.flag f)) k (λ a. tt) h
+text_contacts (n ∷ f ∷ t ∷ ts) k h = absurd cc
+
+text_coil : (ts : List (List ℕ)) (k : LeafKind) → coil ts ≡ Is k → TextFits k
+text_coil [] k h = absurd cc
+text_coil (n ∷ []) k h = absurd cc
+text_coil (n ∷ a ∷ []) k h = absurd cc
+text_coil (n ∷ a ∷ b ∷ []) k h = absurd cc
+text_coil (n ∷ a ∷ b ∷ c ∷ []) k h = text_mapped _ _ k (λ x. tt) h
+text_coil (n ∷ a ∷ b ∷ c ∷ t ∷ ts) k h = absurd cc
+
+text_fits : (w : Word) (ts : List (List ℕ)) (bytes : List ℕ) (k : LeafKind) → FitsLine (comment_text bytes) → is_bit_word w ≡ true → element_of w ts bytes ≡ Is k → TextFits k
+text_fits word.Contacts ts bytes k f b h = text_contacts ts k h
+text_fits word.Coil ts bytes k f b h = text_coil ts k h
+text_fits word.Osr ts bytes k f b h = text_bare kind.Osr ts k tt h
+text_fits word.Osf ts bytes k f b h = text_bare kind.Osf ts k tt h
+text_fits word.Short ts bytes k f b h = text_bare kind.Short ts k tt h
+text_fits word.Open ts bytes k f b h = text_bare kind.Open ts k tt h
+text_fits word.Comment ts bytes k f b h = let same : kind.Comment (comment_text bytes) ≡ k = cc in subst TextFits same f
+text_fits word.MasterRelay ts bytes k f b h = text_bare kind.MasterRelay ts k tt h
+text_fits word.Placeholder ts bytes k f b h = text_bare kind.Placeholder ts k tt h
+text_fits _ ts bytes k f b h = absurd cc
+
+word_built : (o : Option Target) (w : Word) → has_unbuilt_word o (Some w) ≡ false → IsBuilt o × (is_bit_word w ≡ true)
+word_built None w h = (tt, is_true (is_bit_word w) h)
+  where
+    is_true : (b : Bool) → not b ≡ false → b ≡ true
+    is_true true h = refl
+    is_true false h = absurd cc
+word_built (Some Interp) w h = (refl, is_true (is_bit_word w) h)
+  where
+    is_true : (b : Bool) → not b ≡ false → b ≡ true
+    is_true true h = refl
+    is_true false h = absurd cc
+word_built (Some F628) w h = absurd cc
+word_built (Some F877) w h = absurd cc
+word_built (Some Mega16) w h = absurd cc
+word_built (Some AnsiC) w h = absurd cc
+
+printable : (o : Option Target) (number : ℕ) (bytes : List ℕ) (l : leaf.Leaf) → length bytes ≤ 512 → IsLine bytes → begins_unbuilt o (tokens bytes) ≡ false → said_in site.Inside number bytes ≡ Is (Body (mark.Element l)) → IsPrintable l.kind
+printable o number bytes l short clean free h =
+    let w = element_worded number bytes l h in
+    let known : has_unbuilt_word o (Some w.word) ≡ false = sym (ap (has_unbuilt_word o) w.known) ∙ sym (ap (begins_unbuilt o) w.tokens) ∙ free in
+    let b = word_built o w.word known in
+    record {
+      read = in_their_ranges w.word w.rest bytes l.kind w.said;
+      bits = worded_bits o bytes l.kind b.0 free w;
+      text = text_fits w.word w.rest bytes l.kind (comment_stays bytes short clean) b.1 w.said;
+    }
+
+-- settings and pins
+
+header_says : (ts : List (List ℕ)) (x : Said HeaderLine) (h : HeaderLine) → unless_blank ts (said_map Header x) ≡ Is (Header h) → x ≡ Is h
+header_says [] x h e = absurd cc
+header_says (t ∷ ts) Bad h e = absurd cc
+header_says (t ∷ ts) Range h e = absurd cc
+header_says (t ∷ ts) (Is g) h e = let same : Header g ≡ Header h = cc in let inner : g ≡ h = cc in ap Is inner
+
+pins_say : (ts : List (List ℕ)) (x : Said PinsLine) (q : PinsLine) → unless_blank ts (said_map Pins x) ≡ Is (Pins q) → x ≡ Is q
+pins_say [] x q e = absurd cc
+pins_say (t ∷ ts) Bad q e = absurd cc
+pins_say (t ∷ ts) Range q e = absurd cc
+pins_say (t ∷ ts) (Is r) q e = let same : Pins r ≡ Pins q = cc in let inner : r ≡ q = cc in ap Is inner
+
+at_most : (n most : ℕ) → nat_le n most ≡ true → n ≤ most
+at_most n most h = grind (arith, nat_tests)
+
+record NameFirst (ts : List (List ℕ)) (p : pin.PinLine) : Type 0 where
+  rest : List (List ℕ)
+  is : ts ≡ p.name ∷ rest
+
+pin_named : (n : List ℕ) (b : Bool) (s : Said ℕ) (p : pin.PinLine) → said_map (λ p. pins.Pin (record { name = p.0; pin = p.1 })) (both (if b then Is n else Bad) s) ≡ Is (pins.Pin p) → n ≡ p.name
+pin_named n true Bad p h = absurd cc
+pin_named n true Range p h = absurd cc
+pin_named n true (Is k) p h =
+    let same : pins.Pin (record { name = n; pin = k }) ≡ pins.Pin p = cc in
+    let inner : record { name = n; pin = k } ≡ p = cc in
+    ap (λ x. x.name) inner
+pin_named n false Bad p h = absurd cc
+pin_named n false Range p h = absurd cc
+pin_named n false (Is k) p h = absurd cc
+
+name_first : (ts : List (List ℕ)) (p : pin.PinLine) → pin_of_line ts ≡ Is (pins.Pin p) → NameFirst ts p
+name_first [] p h = absurd cc
+name_first (t ∷ []) p h = absurd (by (bytes_eq t (codes "END")) h)
+  where
+    by : (b : Bool) → (if b then Is pins.End else Bad) ≡ Is (pins.Pin p) → ⊥
+    by true h = cc
+    by false h = cc
+name_first (n ∷ w ∷ []) p h = absurd cc
+name_first (n ∷ w ∷ k ∷ []) p h = by (bytes_eq w (codes "at")) h
+  where
+    by : (b : Bool) → (if b then pin_line n k else Bad) ≡ Is (pins.Pin p) → NameFirst (n ∷ w ∷ k ∷ []) p
+    by true h = record { rest = w ∷ k ∷ []; is = ap (λ x. x ∷ w ∷ k ∷ []) (pin_named n (is_name n) (natural_in 0 most_pin k) p h) }
+    by false h = absurd cc
+name_first (n ∷ w ∷ k ∷ t ∷ ts) p h = absurd cc
+
+free_everywhere : (o : Option Target) (w : Option Word) → has_unbuilt_word o w ≡ false → has_unbuilt_word (Some Interp) w ≡ false
+free_everywhere o None h = refl
+free_everywhere o (Some w) h = ap not (word_built o w h).1
+
+pin_fits : (o : Option Target) (bytes : List ℕ) (p : pin.PinLine) → begins_unbuilt o (tokens bytes) ≡ false → pin_of_line (tokens bytes) ≡ Is (pins.Pin p) → PinFits p
+pin_fits o bytes p free h =
+    let r = both_true (is_name p.name) (nat_le p.pin most_pin) (pins_in_range (tokens bytes) (pins.Pin p) h) in
+    let f = name_first (tokens bytes) p h in
+    record { named = r.0; number = at_most p.pin most_pin r.1; free = free_everywhere o (word_of p.name) (sym (ap (begins_unbuilt o) f.is) ∙ free) }
+
+-- a line that has no fault
+
+at_header : (x : Site) (h : HeaderLine) → AllowedAt x (Header h) → x ≡ site.Header
+at_header site.First h a = absurd a
+at_header site.Header h a = refl
+at_header site.Pins h a = absurd a
+at_header site.Between h a = absurd a
+at_header site.Inside h a = absurd a
+
+at_pins : (x : Site) (q : PinsLine) → AllowedAt x (Pins q) → x ≡ site.Pins
+at_pins site.First q a = absurd a
+at_pins site.Header q a = absurd a
+at_pins site.Pins q a = refl
+at_pins site.Between q a = absurd a
+at_pins site.Inside q a = absurd a
+
+pub at_element : (x : Site) (l : leaf.Leaf) → AllowedAt x (Body (mark.Element l)) → x ≡ site.Inside
+at_element site.First l a = absurd a
+at_element site.Header l a = absurd a
+at_element site.Pins l a = absurd a
+at_element site.Between l a = absurd a
+at_element site.Inside l a = refl
+
+or_false : (a b : Bool) → (a || b) ≡ false → (a ≡ false) × (b ≡ false)
+or_false true b h = absurd cc
+or_false false b h = (refl, h)
+
+not_over : (n k : ℕ) → ltb n k ≡ false → k ≤ n
+not_over n k h = grind (arith, nat_tests)
+
+-- what is known of a line at a place that is not the first
+record Seen (p : Place) (bytes : List ℕ) (f : Form) : Type 0 where
+  short : length bytes ≤ 512
+  free : begins_unbuilt p.target (tokens bytes) ≡ false
+  built : names_unbuilt (Is f) ≡ false
+
+seen : (p : Place) (bytes : List ℕ) (size : ℕ) (f : Form) → is_first p.site ≡ false → Passes p bytes size (Is f) → Seen p bytes f
+seen p bytes size f e all =
+    let k = or_false (begins_unbuilt p.target (tokens bytes)) (names_unbuilt (Is f)) (ap (λ b. not b && (begins_unbuilt p.target (tokens bytes) || names_unbuilt (Is f))) (sym e) ∙ all.built) in
+    record { short = not_over 512 (length bytes) all.short; free = k.0; built = k.1 }
+
+is_true : (b : Bool) → not b ≡ false → b ≡ true
+is_true true h = refl
+is_true false h = absurd cc
+
+setting_fits : (p : Place) (number : ℕ) (bytes : List ℕ) (size : ℕ) (h : HeaderLine) → p.site ≡ site.Header → said_in p.site number bytes ≡ Is (Header h) → Passes p bytes size (Is (Header h)) → FormFits (Header h)
+setting_fits p number bytes size h e said all = by h (settings_in_range bytes h (header_says (tokens bytes) (header_of bytes) h (ap (λ x. said_in x number bytes) (sym e) ∙ said))) (seen p bytes size (Header h) (ap is_first e) all).built
+  where
+    by : (h : HeaderLine) → is_read_setting h ≡ true → names_unbuilt (Is (Header h)) ≡ false → FormFits (Header h)
+    by (header.Micro (Some t)) r b = is_true (is_target_built t) b
+    by (header.Micro None) r b = tt
+    by (header.Cycle n) r b = at_most n most_setting r
+    by (header.Crystal n) r b = at_most n most_setting r
+    by (header.Baud n) r b = at_most n most_setting r
+    by header.Compiled r b = tt
+    by header.Pins r b = tt
+    by header.Program r b = tt
+
+form_fits : (p : Place) (number : ℕ) (bytes : List ℕ) (size : ℕ) (f : Form) → AllowedAt p.site f → said_in p.site number bytes ≡ Is f → Passes p bytes size (Is f) → IsLine bytes → FormFits f
+form_fits p number bytes size Blank a said all clean = tt
+form_fits p number bytes size Magic a said all clean = tt
+form_fits p number bytes size (Header h) a said all clean = setting_fits p number bytes size h (at_header p.site h a) said all
+form_fits p number bytes size (Pins pins.End) a said all clean = tt
+form_fits p number bytes size (Pins (pins.Pin q)) a said all clean =
+    let e = at_pins p.site (pins.Pin q) a in
+    pin_fits p.target bytes q (seen p bytes size (Pins (pins.Pin q)) (ap is_first e) all).free (pins_say (tokens bytes) (pin_of_line (tokens bytes)) (pins.Pin q) (ap (λ x. said_in x number bytes) (sym e) ∙ said))
+form_fits p number bytes size (Body mark.Rung) a said all clean = tt
+form_fits p number bytes size (Body (mark.Open c)) a said all clean = tt
+form_fits p number bytes size (Body mark.End) a said all clean = tt
+form_fits p number bytes size (Body (mark.Element l)) a said all clean =
+    let e = at_element p.site l a in
+    let s = seen p bytes size (Body (mark.Element l)) (ap is_first e) all in
+    printable p.target number bytes l s.short clean s.free (ap (λ x. said_in x number bytes) (sym e) ∙ said)
+
+fine_line : (p : Place) (number : ℕ) (l : Line) (f : Form) → fault_at p number l ≡ None → said_at p number l ≡ Is f → IsLine l.bytes → Fine p f
+fine_line p number l f h said clean =
+    let all = passes p number l.bytes (size_of l) (Is f) (ap (fault_of p number l.bytes (size_of l)) (sym said) ∙ h) in
+    let a = allowed p.site number l.bytes f said in
+    record { allowed = a; shallow = all.shallow; few = (or_false (is_one_too_many p (Is f)) _ all.few).0; fits = form_fits p number l.bytes (size_of l) f a said all clean }
+
+fine_unsized : (p : Place) (f : Form) → Fine p f → Fine (unsized p) f
+fine_unsized p Blank h = record { allowed = h.allowed; shallow = refl; few = refl; fits = h.fits }
+fine_unsized p Magic h = record { allowed = h.allowed; shallow = refl; few = refl; fits = h.fits }
+fine_unsized p (Header g) h = record { allowed = h.allowed; shallow = refl; few = refl; fits = h.fits }
+fine_unsized p (Pins (pins.Pin q)) h = record { allowed = h.allowed; shallow = refl; few = h.few; fits = h.fits }
+fine_unsized p (Pins pins.End) h = record { allowed = h.allowed; shallow = refl; few = refl; fits = h.fits }
+fine_unsized p (Body mark.Rung) h = record { allowed = h.allowed; shallow = refl; few = h.few; fits = h.fits }
+fine_unsized p (Body (mark.Open c)) h = record { allowed = h.allowed; shallow = h.shallow; few = h.few; fits = h.fits }
+fine_unsized p (Body mark.End) h = record { allowed = h.allowed; shallow = refl; few = refl; fits = h.fits }
+fine_unsized p (Body (mark.Element l)) h = record { allowed = h.allowed; shallow = refl; few = h.few; fits = h.fits }
+
+end_unsized : (p : Place) (b : Bool) → unsized (if b then record p { site = site.Between } else record p { depth = p.depth - 1 }) ≡ (if b then record (unsized p) { site = site.Between } else record (unsized p) { depth = p.depth - 1 })
+end_unsized p true = refl
+end_unsized p false = refl
+
+pub behind_unsized : (p : Place) (f : Form) → unsized (behind_form p f) ≡ behind_form (unsized p) f
+behind_unsized p Blank = refl
+behind_unsized p Magic = refl
+behind_unsized p (Header (header.Micro (Some t))) = refl
+behind_unsized p (Header (header.Micro None)) = refl
+behind_unsized p (Header (header.Cycle n)) = refl
+behind_unsized p (Header (header.Crystal n)) = refl
+behind_unsized p (Header (header.Baud n)) = refl
+behind_unsized p (Header header.Compiled) = refl
+behind_unsized p (Header header.Pins) = refl
+behind_unsized p (Header header.Program) = refl
+behind_unsized p (Pins (pins.Pin q)) = refl
+behind_unsized p (Pins pins.End) = refl
+behind_unsized p (Body mark.Rung) = refl
+behind_unsized p (Body (mark.Open c)) = refl
+behind_unsized p (Body mark.End) = end_unsized p (eqb p.depth 0)
+behind_unsized p (Body (mark.Element l)) = refl
+
+-- all lines of a text that has no fault
+
+abbrev pub AllClean : List Line → Type 0
+AllClean [] = Unit {0}
+AllClean (l ∷ ls) = IsLine l.bytes × AllClean ls
+
+pub none_both : (a b : Option ProjectFault) → or_else a b ≡ None → (a ≡ None) × (b ≡ None)
+none_both (Some f) b h = absurd cc
+none_both None b h = (refl, h)
+
+said_more : (p : Place) (f : Form) (others : List (Said Form)) (fs : List Form) → Is f ∷ others ≡ map Is fs → Fine p f → ((gs : List Form) → others ≡ map Is gs → AllFine (unsized (behind_form p f)) gs) → AllFine (unsized p) fs
+said_more p f others [] h fine rest = absurd cc
+said_more p f others (g ∷ gs) h fine rest =
+    let head : Is f ≡ Is g = cc in
+    let same : f ≡ g = cc in
+    let tail : others ≡ map Is gs = cc in
+    (subst (Fine (unsized p)) same (fine_unsized p f fine), subst (λ x. AllFine x gs) (behind_unsized p f ∙ ap (behind_form (unsized p)) same) (rest gs tail))
+
+one_more : (p : Place) (f : Form) (others : List (Said Form)) (fs : List Form) → unblanked (Is f) others ≡ map Is fs → Fine p f → ((gs : List Form) → others ≡ map Is gs → AllFine (unsized (behind_form p f)) gs) → AllFine (unsized p) fs
+one_more p Blank others fs h fine rest = rest fs h
+one_more p Magic others fs h fine rest = said_more p Magic others fs h fine rest
+one_more p (Header g) others fs h fine rest = said_more p (Header g) others fs h fine rest
+one_more p (Pins g) others fs h fine rest = said_more p (Pins g) others fs h fine rest
+one_more p (Body g) others fs h fine rest = said_more p (Body g) others fs h fine rest
+
+pub fine_lines : (ls : List Line) (p : Place) (n : ℕ) (fs : List Form) → AllClean ls → first_fault p n ls ≡ None → said_by p n ls ≡ map Is fs → (behind_all p n ls).site ≡ site.Between → AllFine (unsized p) fs
+fine_lines [] p n [] c h said e = e
+fine_lines [] p n (f ∷ fs) c h said e = absurd cc
+fine_lines (l ∷ ls) p n fs c h said e =
+    by (said_at p n l) refl (λ gs k. fine_lines ls (place.behind p n l) (n + 1) gs c.1 (none_both (fault_at p n l) (first_fault (place.behind p n l) (n + 1) ls) h).1 k e)
+  where
+    none : (fault_at p n l ≡ None) × (first_fault (place.behind p n l) (n + 1) ls ≡ None)
+    none = none_both (fault_at p n l) (first_fault (place.behind p n l) (n + 1) ls) h
+
+    all : Passes p l.bytes (size_of l) (said_at p n l)
+    all = passes p n l.bytes (size_of l) (said_at p n l) none.0
+
+    by : (x : Said Form) → said_at p n l ≡ x → ((gs : List Form) → said_by (place.behind p n l) (n + 1) ls ≡ map Is gs → AllFine (unsized (place.behind p n l)) gs) → AllFine (unsized p) fs
+    by Bad g rest = let no = ap is_bad (sym g) ∙ all.good in absurd cc
+    by Range g rest = let no = ap is_out_of_range (sym g) ∙ all.range in absurd cc
+    by (Is f) g rest =
+        one_more p f (said_by (place.behind p n l) (n + 1) ls) fs (ap (λ x. unblanked x (said_by (place.behind p n l) (n + 1) ls)) (sym g) ∙ said) (fine_line p n l f none.0 g c.0)
+        (λ gs k. subst (λ x. AllFine (unsized x) gs) (ap (behind_said p (size_of l)) g) (rest gs k))

@@ -1,0 +1,13 @@
+pub mod JoinedLemmas
+pub mod TokenLemmas
+pub mod NumberLemmas
+pub mod ElementLemmas
+pub mod HeadLemmas
+pub mod FineLemmas
+pub mod HeadFacts
+pub mod NumberedLemmas
+pub mod MarkLemmas
+pub mod WalkLemmas
+pub mod CleanLemmas
+pub mod KnownLemmas
+pub mod PrintedLemmas

@@ -1,0 +1,125 @@
+-- The line that an element is printed as: its word, and what stands behind the word.
+use Rattle.std.specs.Prelude.{ℕ, ◌/◌, Bool, true, false, ℤ, List, [], ◌∷◌, ◌++◌, map, length, codes}
+use Rattle.std.specs.Fmt.{decimal, signed_decimal}
+use Rattle.ladder_tree.specs.declared.element.CoilMode.{CoilMode}
+use Rattle.ladder_tree.specs.declared.element.CoilMode.TheVariants as mode
+use Rattle.ladder_tree.specs.declared.element.TimerHow.{TimerHow}
+use Rattle.ladder_tree.specs.declared.element.TimerHow.TheVariants as timer
+use Rattle.ladder_tree.specs.declared.element.CounterHow.{CounterHow}
+use Rattle.ladder_tree.specs.declared.element.CounterHow.TheVariants as counter
+use Rattle.ladder_tree.specs.declared.element.MathHow.{MathHow}
+use Rattle.ladder_tree.specs.declared.element.MathHow.TheVariants as sum
+use Rattle.ladder_tree.specs.declared.element.CompareHow.{CompareHow}
+use Rattle.ladder_tree.specs.declared.element.CompareHow.TheVariants as test
+use Rattle.ladder_tree.specs.declared.element.LeafKind.{LeafKind}
+use Rattle.ladder_tree.specs.declared.element.LeafKind.TheVariants.{Contacts, Coil, Osr, Osf, Short, Open, MasterRelay, Placeholder, Comment, Timer, Counter, Reset, Move, Math, Compare, Shift, Table, ReadAdc, SetPwm, Recv, Send, Persist, Linear, Formatted}
+use Rattle.ladder_tree.specs.declared.element.Operand.{Operand}
+use Rattle.ladder_tree.specs.declared.element.Operand.TheVariants.{Var, Num}
+
+abbrev pub timer_word : TimerHow → List ℕ
+timer_word timer.Ton = codes "TON"
+timer_word timer.Tof = codes "TOF"
+timer_word timer.Rto = codes "RTO"
+
+abbrev pub counter_word : CounterHow → List ℕ
+counter_word counter.Ctu = codes "CTU"
+counter_word counter.Ctd = codes "CTD"
+counter_word counter.Ctc = codes "CTC"
+
+abbrev pub math_word : MathHow → List ℕ
+math_word sum.Add = codes "ADD"
+math_word sum.Sub = codes "SUB"
+math_word sum.Mul = codes "MUL"
+math_word sum.Div = codes "DIV"
+
+abbrev pub compare_word : CompareHow → List ℕ
+compare_word test.Equ = codes "EQU"
+compare_word test.Neq = codes "NEQ"
+compare_word test.Grt = codes "GRT"
+compare_word test.Geq = codes "GEQ"
+compare_word test.Les = codes "LES"
+compare_word test.Leq = codes "LEQ"
+
+abbrev pub word : LeafKind → List ℕ
+word (Contacts name neg) = codes "CONTACTS"
+word (Coil name mode) = codes "COIL"
+word Osr = codes "OSR"
+word Osf = codes "OSF"
+word Short = codes "SHORT"
+word Open = codes "OPEN"
+word MasterRelay = codes "MASTER_RELAY"
+word Placeholder = codes "PLACEHOLDER"
+word (Comment text) = codes "COMMENT"
+word (Timer how name delay) = timer_word how
+word (Counter how name max) = counter_word how
+word (Reset name) = codes "RES"
+word (Move dest src) = codes "MOVE"
+word (Math how dest a b) = math_word how
+word (Compare how a b) = compare_word how
+word (Shift name places) = codes "SHIFT_REGISTER"
+word (Table dest index as_text values) = codes "LOOK_UP_TABLE"
+word (ReadAdc name) = codes "READ_ADC"
+word (SetPwm name hz) = codes "SET_PWM"
+word (Recv name) = codes "UART_RECV"
+word (Send name) = codes "UART_SEND"
+word (Persist name) = codes "PERSIST"
+word (Linear dest index points) = codes "PIECEWISE_LINEAR"
+word (Formatted name text) = codes "FORMATTED_STRING"
+
+abbrev pub flag : Bool → List ℕ
+flag false = codes "0"
+flag true = codes "1"
+
+-- the flags negated, set and reset of a coil
+abbrev pub mode_flags : CoilMode → List (List ℕ)
+mode_flags mode.Plain = codes "0" ∷ codes "0" ∷ codes "0" ∷ []
+mode_flags mode.Negated = codes "1" ∷ codes "0" ∷ codes "0" ∷ []
+mode_flags mode.Set = codes "0" ∷ codes "1" ∷ codes "0" ∷ []
+mode_flags mode.Reset = codes "0" ∷ codes "0" ∷ codes "1" ∷ []
+
+abbrev pub operand_text : Operand → List ℕ
+operand_text (Var name) = name
+operand_text (Num n) = signed_decimal n
+
+-- no token where the text is empty
+abbrev pub comment_tokens : List ℕ → List (List ℕ)
+comment_tokens [] = []
+comment_tokens (c ∷ cs) = (c ∷ cs) ∷ []
+
+abbrev pub integers : List ℤ → List (List ℕ)
+integers ns = map signed_decimal ns
+
+-- what stands behind the word, token by token; the text of a comment counts as one
+abbrev pub tokens_behind : LeafKind → List (List ℕ)
+tokens_behind (Contacts name neg) = name ∷ flag neg ∷ []
+tokens_behind (Coil name mode) = name ∷ mode_flags mode
+tokens_behind Osr = []
+tokens_behind Osf = []
+tokens_behind Short = []
+tokens_behind Open = []
+tokens_behind MasterRelay = []
+tokens_behind Placeholder = []
+tokens_behind (Comment text) = comment_tokens text
+tokens_behind (Timer how name delay) = name ∷ decimal delay ∷ []
+tokens_behind (Counter how name max) = name ∷ signed_decimal max ∷ []
+tokens_behind (Reset name) = name ∷ []
+tokens_behind (Move dest src) = dest ∷ operand_text src ∷ []
+tokens_behind (Math how dest a b) = dest ∷ operand_text a ∷ operand_text b ∷ []
+tokens_behind (Compare how a b) = operand_text a ∷ operand_text b ∷ []
+tokens_behind (Shift name places) = name ∷ decimal places ∷ []
+tokens_behind (Table dest index as_text values) = dest ∷ operand_text index ∷ decimal (length values) ∷ flag as_text ∷ integers values
+tokens_behind (ReadAdc name) = name ∷ []
+tokens_behind (SetPwm name hz) = name ∷ decimal hz ∷ []
+tokens_behind (Recv name) = name ∷ []
+tokens_behind (Send name) = name ∷ []
+tokens_behind (Persist name) = name ∷ []
+tokens_behind (Linear dest index points) = dest ∷ operand_text index ∷ decimal (length points / 2) ∷ integers points
+tokens_behind (Formatted name text) = name ∷ decimal (length text) ∷ map decimal text
+
+-- one space (32) in front of each token
+abbrev pub behind_spaces : List (List ℕ) → List ℕ
+behind_spaces [] = []
+behind_spaces (t ∷ ts) = 32 ∷ t ++ behind_spaces ts
+
+abbrev pub element_words : LeafKind → List ℕ
+element_words k = word k ++ behind_spaces (tokens_behind k)

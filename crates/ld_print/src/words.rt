@@ -1,0 +1,262 @@
+//! The lines that elements are printed as.
+
+ghost use Rattle.std.specs.Prelude.{◌≡◌, ◌∷◌, ◌++◌, OnOk, map};
+ghost use Rattle.std.specs.Fmt.{decimal, signed_decimal};
+ghost use Rattle.ld_print.specs.Words.{timer_word, counter_word, math_word, compare_word, word, flag, mode_flags, operand_text, comment_tokens, integers, tokens_behind, behind_spaces, element_words};
+
+use ladder_tree::element::{
+    CoilMode, CompareHow, CounterHow, LeafKind, MathHow, Operand, TimerHow,
+};
+use std::alloc::{AllocError, Global};
+
+fn timer_word(how: TimerHow) -> &'static str
+    ensures { result.now ≡ timer_word how }
+{
+    match how {
+        TimerHow::Ton => "TON",
+        TimerHow::Tof => "TOF",
+        TimerHow::Rto => "RTO",
+    }
+}
+
+fn counter_word(how: CounterHow) -> &'static str
+    ensures { result.now ≡ counter_word how }
+{
+    match how {
+        CounterHow::Ctu => "CTU",
+        CounterHow::Ctd => "CTD",
+        CounterHow::Ctc => "CTC",
+    }
+}
+
+fn math_word(how: MathHow) -> &'static str
+    ensures { result.now ≡ math_word how }
+{
+    match how {
+        MathHow::Add => "ADD",
+        MathHow::Sub => "SUB",
+        MathHow::Mul => "MUL",
+        MathHow::Div => "DIV",
+    }
+}
+
+fn compare_word(how: CompareHow) -> &'static str
+    ensures { result.now ≡ compare_word how }
+{
+    match how {
+        CompareHow::Equ => "EQU",
+        CompareHow::Neq => "NEQ",
+        CompareHow::Grt => "GRT",
+        CompareHow::Geq => "GEQ",
+        CompareHow::Les => "LES",
+        CompareHow::Leq => "LEQ",
+    }
+}
+
+/// The word that an element's line begins with.
+fn word(kind: &LeafKind) -> &'static str
+    ensures { result.now ≡ word kind.now }
+{
+    match kind {
+        LeafKind::Contacts { .. } => "CONTACTS",
+        LeafKind::Coil { .. } => "COIL",
+        LeafKind::Osr => "OSR",
+        LeafKind::Osf => "OSF",
+        LeafKind::Short => "SHORT",
+        LeafKind::Open => "OPEN",
+        LeafKind::MasterRelay => "MASTER_RELAY",
+        LeafKind::Placeholder => "PLACEHOLDER",
+        LeafKind::Comment { .. } => "COMMENT",
+        LeafKind::Timer { how, .. } => timer_word(*how),
+        LeafKind::Counter { how, .. } => counter_word(*how),
+        LeafKind::Reset { .. } => "RES",
+        LeafKind::Move { .. } => "MOVE",
+        LeafKind::Math { how, .. } => math_word(*how),
+        LeafKind::Compare { how, .. } => compare_word(*how),
+        LeafKind::Shift { .. } => "SHIFT_REGISTER",
+        LeafKind::Table { .. } => "LOOK_UP_TABLE",
+        LeafKind::ReadAdc { .. } => "READ_ADC",
+        LeafKind::SetPwm { .. } => "SET_PWM",
+        LeafKind::Recv { .. } => "UART_RECV",
+        LeafKind::Send { .. } => "UART_SEND",
+        LeafKind::Persist { .. } => "PERSIST",
+        LeafKind::Linear { .. } => "PIECEWISE_LINEAR",
+        LeafKind::Formatted { .. } => "FORMATTED_STRING",
+    }
+}
+
+/// Appends a space and a token.
+fn push_token(line: &mut Vec<u8>, token: &[u8]) -> Result<(), AllocError>
+    ensures { OnOk result (line.new.items ≡ line.old.items ++ 32 ∷ token.now) }
+{
+    line.push(b' ')?;
+    line.extend_from_slice(token)
+}
+
+/// Appends a space and the digits of a number.
+fn push_natural(alloc: Global, line: &mut Vec<u8>, number: usize) -> Result<(), AllocError>
+    ensures { OnOk result (line.new.items ≡ line.old.items ++ 32 ∷ decimal number) }
+{
+    let digits = format!(in alloc; "{number}")?;
+    push_token(line, digits.as_bytes())
+}
+
+/// Appends a space and a number, with `-` in front where it is below 0.
+fn push_integer(alloc: Global, line: &mut Vec<u8>, number: i16) -> Result<(), AllocError>
+    ensures { OnOk result (line.new.items ≡ line.old.items ++ 32 ∷ signed_decimal number) }
+{
+    let digits = format!(in alloc; "{number}")?;
+    push_token(line, digits.as_bytes())
+}
+
+/// Appends numbers, each behind a space.
+fn push_integers(alloc: Global, line: &mut Vec<u8>, numbers: &[i16]) -> Result<(), AllocError>
+    ensures { OnOk result (line.new.items ≡ line.old.items ++ behind_spaces (integers numbers.now)) }
+{
+    for number in numbers {
+        push_integer(alloc, line, *number)?;
+    }
+    Ok(())
+}
+
+/// Appends the numbers of bytes, each behind a space.
+fn push_bytes(alloc: Global, line: &mut Vec<u8>, bytes: &[u8]) -> Result<(), AllocError>
+    ensures { OnOk result (line.new.items ≡ line.old.items ++ behind_spaces (map decimal bytes.now)) }
+{
+    for byte in bytes {
+        push_natural(alloc, line, usize::from(*byte))?;
+    }
+    Ok(())
+}
+
+/// Appends a space and a flag.
+fn push_flag(line: &mut Vec<u8>, is_set: bool) -> Result<(), AllocError>
+    ensures { OnOk result (line.new.items ≡ line.old.items ++ 32 ∷ flag is_set) }
+{
+    push_token(line, if is_set { b"1" } else { b"0" })
+}
+
+/// Appends the flags of a coil: negated, set and reset.
+fn push_mode(line: &mut Vec<u8>, mode: CoilMode) -> Result<(), AllocError>
+    ensures { OnOk result (line.new.items ≡ line.old.items ++ behind_spaces (mode_flags mode)) }
+{
+    let flags = match mode {
+        CoilMode::Plain => " 0 0 0",
+        CoilMode::Negated => " 1 0 0",
+        CoilMode::Set => " 0 1 0",
+        CoilMode::Reset => " 0 0 1",
+    };
+    line.extend_from_slice(flags.as_bytes())
+}
+
+/// Appends a space and an operand.
+fn push_operand(alloc: Global, line: &mut Vec<u8>, operand: &Operand) -> Result<(), AllocError>
+    ensures { OnOk result (line.new.items ≡ line.old.items ++ 32 ∷ operand_text operand.now) }
+{
+    match operand {
+        Operand::Var(name) => push_token(line, name.as_slice()),
+        Operand::Num(number) => push_integer(alloc, line, *number),
+    }
+}
+
+/// Appends a comment's text behind a space, and nothing where it is empty.
+fn push_comment(line: &mut Vec<u8>, text: &[u8]) -> Result<(), AllocError>
+    ensures { OnOk result (line.new.items ≡ line.old.items ++ behind_spaces (comment_tokens text.now)) }
+{
+    if text.is_empty() {
+        return Ok(());
+    }
+    push_token(line, text)
+}
+
+/// Appends what stands behind an element's word.
+fn push_behind(alloc: Global, line: &mut Vec<u8>, kind: &LeafKind) -> Result<(), AllocError>
+    ensures { OnOk result (line.new.items ≡ line.old.items ++ behind_spaces (tokens_behind kind.now)) }
+{
+    match kind {
+        LeafKind::Contacts { name, neg } => {
+            push_token(line, name.as_slice())?;
+            push_flag(line, *neg)
+        }
+        LeafKind::Coil { name, mode } => {
+            push_token(line, name.as_slice())?;
+            push_mode(line, *mode)
+        }
+        LeafKind::Osr
+        | LeafKind::Osf
+        | LeafKind::Short
+        | LeafKind::Open
+        | LeafKind::MasterRelay
+        | LeafKind::Placeholder => Ok(()),
+        LeafKind::Comment { text } => push_comment(line, text.as_slice()),
+        LeafKind::Timer { name, delay, .. } => {
+            push_token(line, name.as_slice())?;
+            push_natural(alloc, line, *delay as usize)
+        }
+        LeafKind::Counter { name, max, .. } => {
+            push_token(line, name.as_slice())?;
+            push_integer(alloc, line, *max)
+        }
+        LeafKind::Move { dest, src } => {
+            push_token(line, dest.as_slice())?;
+            push_operand(alloc, line, src)
+        }
+        LeafKind::Math { dest, a, b, .. } => {
+            push_token(line, dest.as_slice())?;
+            push_operand(alloc, line, a)?;
+            push_operand(alloc, line, b)
+        }
+        LeafKind::Compare { a, b, .. } => {
+            push_operand(alloc, line, a)?;
+            push_operand(alloc, line, b)
+        }
+        LeafKind::Shift { name, places } => {
+            push_token(line, name.as_slice())?;
+            push_natural(alloc, line, usize::from(*places))
+        }
+        LeafKind::Table {
+            dest,
+            index,
+            as_text,
+            values,
+        } => {
+            push_token(line, dest.as_slice())?;
+            push_operand(alloc, line, index)?;
+            push_natural(alloc, line, values.len())?;
+            push_flag(line, *as_text)?;
+            push_integers(alloc, line, values.as_slice())
+        }
+        LeafKind::SetPwm { name, hz } => {
+            push_token(line, name.as_slice())?;
+            push_natural(alloc, line, *hz as usize)
+        }
+        LeafKind::Reset { name }
+        | LeafKind::ReadAdc { name }
+        | LeafKind::Recv { name }
+        | LeafKind::Send { name }
+        | LeafKind::Persist { name } => push_token(line, name.as_slice()),
+        LeafKind::Linear {
+            dest,
+            index,
+            points,
+        } => {
+            push_token(line, dest.as_slice())?;
+            push_operand(alloc, line, index)?;
+            push_natural(alloc, line, points.len() / 2)?;
+            push_integers(alloc, line, points.as_slice())
+        }
+        LeafKind::Formatted { name, text } => {
+            push_token(line, name.as_slice())?;
+            push_natural(alloc, line, text.len())?;
+            push_bytes(alloc, line, text.as_slice())
+        }
+    }
+}
+
+/// Appends an element's line, without an indent and without its end.
+pub fn push_element(alloc: Global, line: &mut Vec<u8>, kind: &LeafKind) -> Result<(), AllocError>
+    ensures { OnOk result (line.new.items ≡ line.old.items ++ element_words kind.now) }
+{
+    line.extend_from_slice(word(kind).as_bytes())?;
+    push_behind(alloc, line, kind)
+}

@@ -1,0 +1,593 @@
+-- What a reader has read spells what the lines said, and keeps the limits.
+use Rattle.std.proofs.Common.{◌≡◌, ℕ, ◌+◌, ◌-◌, ◌<◌, ◌≤◌, Bool, true, false, not, cond, eqb, ◌&&◌, ◌||◌, List, [], ◌∷◌, ◌++◌, length, map, Option, Some, None, is_some, refl, sym, ap, subst, ◌∙◌, arith, append_assoc, append-nil, length-append, lit≤}
+use Rattle.std.specs.List.{list_all}
+use Rattle.std.proofs.lemmas.List.{map-append}
+use Rattle.std.proofs.lemmas.List.Folds.{list_all-append}
+use Rattle.std.proofs.lemmas.Bool.Decides.{nat_tests}
+use Rattle.chip_tables.specs.declared.target.Target.{Target}
+use Rattle.ladder_tree.specs.declared.element.Leaf as leaf
+use Rattle.ladder_tree.specs.declared.project.Node.{Node}
+use Rattle.ladder_tree.specs.declared.project.PinLine as pin
+use Rattle.ladder_tree.specs.declared.project.Rung.{Rung}
+use Rattle.ld_line.specs.Numbers.{most_setting}
+use Rattle.ld_line.specs.Range.{is_read_kind, is_read_setting}
+use Rattle.ld_line.specs.Tokens.{tokens}
+use Rattle.ld_line.specs.Words.{is_target_built}
+use Rattle.ld_line.specs.declared.header.HeaderLine.{HeaderLine}
+use Rattle.ld_line.specs.declared.header.HeaderLine.TheVariants as header
+use Rattle.ld_line.specs.declared.pins.PinsLine.TheVariants as pins
+use Rattle.ld_line.specs.declared.said.Said.{Said}
+use Rattle.ld_line.specs.declared.said.Said.TheVariants.{Bad, Range, Is}
+use Rattle.ld_line.proofs.RangeLemmas.{in_their_ranges, settings_in_range}
+use Rattle.ld_text.specs.declared.draft.Frame.{Frame}
+use Rattle.ld_text.specs.declared.draft.Settings.{Settings}
+use Rattle.ld_text.specs.declared.form.Mark.{Mark}
+use Rattle.ld_text.specs.declared.form.Mark.TheVariants as mark
+use Rattle.ld_text.specs.declared.form.Form.{Form}
+use Rattle.ld_text.specs.declared.form.Form.TheVariants.{Blank, Magic, Header, Pins, Body}
+use Rattle.ld_text.specs.declared.place.Place.{Place}
+use Rattle.ld_text.specs.declared.place.Site.{Site}
+use Rattle.ld_text.specs.declared.place.Site.TheVariants as site
+use Rattle.ld_text.specs.Lines.{Line, size_of}
+use Rattle.ld_text.specs.Place.{said_in, said_at, behind, behind_said, behind_mark}
+use Rattle.ld_text.specs.Faults.{begins_unbuilt, names_unbuilt, is_chipless, is_first, fault_of}
+use Rattle.ld_text.specs.Spelling.{Item, Chip, Cycle, Crystal, Baud, Compiled, PinSection, joined, pin_forms, spelled, spelled_item, spelled_items, defaults, with_item, with_items}
+use Rattle.ld_text.specs.Text.{unblanked, said_by}
+use Rattle.ladder_tree.specs.BitWords as bits
+use Rattle.ld_text.specs.Reading.{Tree, Closed, Building, ended, grown, with_form, settings_behind, RoomFor, HasRoom, Standing, first, standing_behind, Taken, Goes, Stops, taken}
+use Rattle.ld_text.proofs.TakenLemmas.{Passes, Went, goes, passes, room}
+use Rattle.ld_text.proofs.TreeGrowth.{so_far, Suits, so_far-grown, IsShallow, shallow_grown, depth_at, MayOpen, leaves_of, opens, begins, leaves_of-append, opens-append, begins-append}
+use Rattle.ld_text.proofs.SaidLemmas.{AllowedAt, allowed, header_said, element_worded, worded_bits, IsBuilt}
+use Rattle.ld_text.proofs.RunLemmas.{then, run}
+
+-- an element that lines can say, and of relay logic
+abbrev pub is_good : leaf.Leaf → Bool
+is_good l = is_read_kind l.kind && bits.is_bit_word l.kind
+
+abbrev IsGood : Mark → Type 0
+IsGood (mark.Element l) = is_good l ≡ true
+IsGood mark.Rung = Unit {0}
+IsGood (mark.Open c) = Unit {0}
+IsGood mark.End = Unit {0}
+
+-- the place counts the lines of the tree
+pub record Counts (p : Place) (t : Tree) : Type 0 where
+  pub rungs : begins (so_far t) ≡ p.rungs
+  pub few_rungs : p.rungs ≤ 500
+  pub elements : length (leaves_of (so_far t)) ≡ p.elements
+  pub few_elements : p.elements ≤ 4000
+  pub openings : opens (so_far t) ≡ p.openings
+  pub few_openings : p.openings ≤ 4000
+  pub depth : depth_at t ≡ p.depth
+  pub shallow : IsShallow t
+  pub good : list_all is_good (leaves_of (so_far t)) ≡ true
+
+no_depth : (k n : ℕ) → k ≡ n + 1 → eqb k 0 ≡ false
+no_depth k n h = grind (arith, nat_tests)
+
+depth_ended : (p : Place) (gs : List Rung) (fs : List Frame) (ns : List Node) → length fs ≡ p.depth → depth_at (ended gs fs ns) ≡ (behind_mark p mark.End).depth
+depth_ended p gs [] ns h = by (eqb p.depth 0)
+  where
+    by : (b : Bool) → 0 ≡ (cond b (record p { site = site.Between }) (record p { depth = p.depth - 1 })).depth
+    by true = h
+    by false = omega arith
+depth_ended p gs (f ∷ fs) ns h = by (eqb p.depth 0) (no_depth p.depth (length fs) (omega arith))
+  where
+    by : (b : Bool) → b ≡ false → length fs ≡ (cond b (record p { site = site.Between }) (record p { depth = p.depth - 1 })).depth
+    by true e = absurd cc
+    by false e = omega arith
+
+depth_grown : (p : Place) (t : Tree) (m : Mark) → Suits t m → depth_at t ≡ p.depth → depth_at (grown t m) ≡ (behind_mark p m).depth
+depth_grown p (Closed gs) mark.Rung s h = h
+depth_grown p (Closed gs) (mark.Open c) s h = absurd s
+depth_grown p (Closed gs) mark.End s h = absurd s
+depth_grown p (Closed gs) (mark.Element l) s h = absurd s
+depth_grown p (Building gs fs ns) mark.Rung s h = absurd s
+depth_grown p (Building gs fs ns) (mark.Open c) s h = omega arith
+depth_grown p (Building gs fs ns) mark.End s h = depth_ended p gs fs ns h
+depth_grown p (Building gs fs ns) (mark.Element l) s h = h
+
+may_open : (p : Place) (t : Tree) (m : Mark) → depth_at t ≡ p.depth → RoomFor p (Body m) → MayOpen t m
+may_open p t mark.Rung h r = tt
+may_open p t (mark.Open c) h r = let d = r.0 in omega arith
+may_open p t mark.End h r = tt
+may_open p t (mark.Element l) h r = tt
+
+end_same : (p : Place) (b : Bool) → ((cond b (record p { site = site.Between }) (record p { depth = p.depth - 1 })).rungs ≡ p.rungs) × ((cond b (record p { site = site.Between }) (record p { depth = p.depth - 1 })).elements ≡ p.elements) × ((cond b (record p { site = site.Between }) (record p { depth = p.depth - 1 })).openings ≡ p.openings)
+end_same p true = (refl, refl, refl)
+end_same p false = (refl, refl, refl)
+
+-- what one line adds
+record Adds (p : Place) (m : Mark) (ms : List Mark) : Type 0 where
+  rungs : begins (ms ++ m ∷ []) ≡ (behind_mark p m).rungs
+  few_rungs : (behind_mark p m).rungs ≤ 500
+  elements : length (leaves_of (ms ++ m ∷ [])) ≡ (behind_mark p m).elements
+  few_elements : (behind_mark p m).elements ≤ 4000
+  openings : opens (ms ++ m ∷ []) ≡ (behind_mark p m).openings
+  few_openings : (behind_mark p m).openings ≤ 4000
+  good : list_all is_good (leaves_of (ms ++ m ∷ [])) ≡ true
+
+adds : (p : Place) (m : Mark) (t : Tree) → Counts p t → RoomFor p (Body m) → IsGood m → Adds p m (so_far t)
+adds p mark.Rung t c r g = record {
+  rungs = omega (arith, begins-append (so_far t) (mark.Rung ∷ []), c.rungs);
+  few_rungs = omega (arith, r);
+  elements = ap length (leaves_of-append (so_far t) (mark.Rung ∷ []) ∙ append-nil (leaves_of (so_far t))) ∙ c.elements;
+  few_elements = c.few_elements;
+  openings = omega (arith, opens-append (so_far t) (mark.Rung ∷ []), c.openings);
+  few_openings = c.few_openings;
+  good = ap (list_all is_good) (leaves_of-append (so_far t) (mark.Rung ∷ []) ∙ append-nil (leaves_of (so_far t))) ∙ c.good;
+}
+adds p (mark.Open x) t c r g = record {
+  rungs = omega (arith, begins-append (so_far t) (mark.Open x ∷ []), c.rungs);
+  few_rungs = c.few_rungs;
+  elements = ap length (leaves_of-append (so_far t) (mark.Open x ∷ []) ∙ append-nil (leaves_of (so_far t))) ∙ c.elements;
+  few_elements = c.few_elements;
+  openings = omega (arith, opens-append (so_far t) (mark.Open x ∷ []), c.openings);
+  few_openings = omega (arith, r.1);
+  good = ap (list_all is_good) (leaves_of-append (so_far t) (mark.Open x ∷ []) ∙ append-nil (leaves_of (so_far t))) ∙ c.good;
+}
+adds p mark.End t c r g =
+    let same = end_same p (eqb p.depth 0) in
+    record {
+      rungs = omega (arith, begins-append (so_far t) (mark.End ∷ []), c.rungs, same.0);
+      few_rungs = omega (arith, same.0, c.few_rungs);
+      elements = ap length (leaves_of-append (so_far t) (mark.End ∷ []) ∙ append-nil (leaves_of (so_far t))) ∙ c.elements ∙ sym same.1;
+      few_elements = omega (arith, same.1, c.few_elements);
+      openings = omega (arith, opens-append (so_far t) (mark.End ∷ []), c.openings, same.2);
+      few_openings = omega (arith, same.2, c.few_openings);
+      good = ap (list_all is_good) (leaves_of-append (so_far t) (mark.End ∷ []) ∙ append-nil (leaves_of (so_far t))) ∙ c.good;
+    }
+adds p (mark.Element l) t c r g = record {
+  rungs = omega (arith, begins-append (so_far t) (mark.Element l ∷ []), c.rungs);
+  few_rungs = c.few_rungs;
+  elements = ap length (leaves_of-append (so_far t) (mark.Element l ∷ [])) ∙ omega (arith, length-append (leaves_of (so_far t)) (l ∷ []), c.elements);
+  few_elements = omega (arith, r);
+  openings = omega (arith, opens-append (so_far t) (mark.Element l ∷ []), c.openings);
+  few_openings = c.few_openings;
+  good = ap (list_all is_good) (leaves_of-append (so_far t) (mark.Element l ∷ [])) ∙ list_all-append is_good (leaves_of (so_far t)) (l ∷ []) ∙ both (list_all is_good (leaves_of (so_far t))) (is_good l) c.good g;
+}
+  where
+    both : (a b : Bool) → a ≡ true → b ≡ true → (a && (b && true)) ≡ true
+    both a b h e = rw (h, e) refl
+
+counts_grown : (p : Place) (t : Tree) (m : Mark) → Counts p t → Suits t m → RoomFor p (Body m) → IsGood m → Counts (behind_mark p m) (grown t m)
+counts_grown p t m c s r g =
+    let a = adds p m t c r g in
+    let grew = so_far-grown t m s in
+    record {
+      rungs = ap begins grew ∙ a.rungs;
+      few_rungs = a.few_rungs;
+      elements = ap (λ ms. length (leaves_of ms)) grew ∙ a.elements;
+      few_elements = a.few_elements;
+      openings = ap opens grew ∙ a.openings;
+      few_openings = a.few_openings;
+      depth = depth_grown p t m s c.depth;
+      shallow = shallow_grown t m c.shallow (may_open p t m c.depth r);
+      good = ap (λ ms. list_all is_good (leaves_of ms)) grew ∙ a.good;
+    }
+
+-- the place behind a line of no rung counts the same
+same_counts : (p q : Place) (t : Tree) → q.rungs ≡ p.rungs → q.elements ≡ p.elements → q.openings ≡ p.openings → q.depth ≡ p.depth → Counts p t → Counts q t
+same_counts p q t a b c d h = record {
+  rungs = h.rungs ∙ sym a;
+  few_rungs = omega (arith, a, h.few_rungs);
+  elements = h.elements ∙ sym b;
+  few_elements = omega (arith, b, h.few_elements);
+  openings = h.openings ∙ sym c;
+  few_openings = omega (arith, c, h.few_openings);
+  depth = h.depth ∙ sym d;
+  shallow = h.shallow;
+  good = h.good;
+}
+
+-- what was read above PROGRAM
+
+joined-one : {A : Type 0} (xs : List (List A)) (x : List A) → joined (xs ++ x ∷ []) ≡ joined xs ++ x
+joined-one [] x = append-nil x
+joined-one (y ∷ xs) x = ap (λ l. y ++ l) (joined-one xs x) ∙ sym (append_assoc y (joined xs) x)
+
+spelled_items-one : (is : List Item) (i : Item) → spelled_items (is ++ i ∷ []) ≡ spelled_items is ++ spelled_item i
+spelled_items-one is i = ap joined (map-append spelled_item is (i ∷ [])) ∙ joined-one (map spelled_item is) (spelled_item i)
+
+with_items-one : (s : Settings) (is : List Item) (i : Item) → with_items s (is ++ i ∷ []) ≡ with_item (with_items s is) i
+with_items-one s [] i = refl
+with_items-one s (j ∷ is) i = with_items-one (with_item s j) is i
+
+pub record InHeader (fs : List Form) (s : Standing) : Type 0 where
+  pub items : List Item
+  pub spelled : fs ≡ Magic ∷ spelled_items items
+  pub settings : s.settings ≡ with_items defaults items
+  pub tree : s.tree ≡ Closed []
+
+pub record InPins (fs : List Form) (s : Standing) : Type 0 where
+  pub items : List Item
+  pub lines : List pin.PinLine
+  pub spelled : fs ≡ Magic ∷ (spelled_items items ++ Header header.Pins ∷ pin_forms lines)
+  pub settings : s.settings ≡ with_item (with_items defaults items) (PinSection lines)
+  pub tree : s.tree ≡ Closed []
+
+pub record InBody (fs : List Form) (s : Standing) : Type 0 where
+  pub items : List Item
+  pub spelled : fs ≡ Magic ∷ (spelled_items items ++ Header header.Program ∷ map Body (so_far s.tree))
+  pub settings : s.settings ≡ with_items defaults items
+  pub named : is_some s.settings.target ≡ true
+
+abbrev pub IsClosed : Tree → Type 0
+IsClosed (Closed gs) = Unit {0}
+IsClosed (Building gs fs ns) = ⊥
+
+abbrev pub IsBuilding : Tree → Type 0
+IsBuilding (Closed gs) = ⊥
+IsBuilding (Building gs fs ns) = Unit {0}
+
+abbrev pub KnowsAt : Site → List Form → Standing → Type 0
+KnowsAt site.First fs s = (fs ≡ []) × (s.settings ≡ defaults) × (s.tree ≡ Closed [])
+KnowsAt site.Header fs s = InHeader fs s
+KnowsAt site.Pins fs s = InPins fs s
+KnowsAt site.Between fs s = InBody fs s × IsClosed s.tree
+KnowsAt site.Inside fs s = InBody fs s × IsBuilding s.tree
+
+pub record Knows (fs : List Form) (s : Standing) : Type 0 where
+  pub spelled : KnowsAt s.place.site fs s
+  pub counts : Counts s.place s.tree
+  pub target : s.settings.target ≡ s.place.target
+  pub built : IsBuilt s.place.target
+  pub timed : s.settings.cycle ≤ most_setting
+
+pub at_first : Knows [] first
+at_first = record {
+  spelled = (refl, refl, refl);
+  counts = record { rungs = refl; few_rungs = omega arith; elements = refl; few_elements = omega arith; openings = refl; few_openings = omega arith; depth = refl; shallow = omega arith; good = refl };
+  target = refl;
+  built = tt;
+  timed = lit≤ tt;
+}
+
+-- a blank line adds nothing
+abbrev pub one : Form → List Form
+one Blank = []
+one Magic = Magic ∷ []
+one (Header h) = Header h ∷ []
+one (Pins q) = Pins q ∷ []
+one (Body m) = Body m ∷ []
+
+-- the same with another place and no line more
+header_item : (fs : List Form) (s t : Standing) (f : Form) (i : Item) → InHeader fs s → spelled_item i ≡ f ∷ [] → t.settings ≡ with_item s.settings i → t.tree ≡ s.tree → InHeader (fs ++ f ∷ []) t
+header_item fs s t f i k e g h = record {
+  items = k.items ++ i ∷ [];
+  spelled = ap (λ x. x ++ f ∷ []) k.spelled ∙ ap (λ x. Magic ∷ (spelled_items k.items ++ x)) (sym e) ∙ ap (λ x. Magic ∷ x) (sym (spelled_items-one k.items i));
+  settings = g ∙ ap (λ x. with_item x i) k.settings ∙ sym (with_items-one defaults k.items i);
+  tree = h ∙ k.tree;
+}
+
+body_more : (fs : List Form) (s : Standing) (m : Mark) (t : Standing) → InBody fs s → Suits s.tree m → t.settings ≡ s.settings → t.tree ≡ grown s.tree m → InBody (fs ++ Body m ∷ []) t
+body_more fs s m t k u e g = record {
+  items = k.items;
+  spelled =
+      ap (λ x. x ++ Body m ∷ []) k.spelled
+      ∙ ap (λ x. Magic ∷ x) (append_assoc (spelled_items k.items) (Header header.Program ∷ map Body (so_far s.tree)) (Body m ∷ []))
+      ∙ ap (λ x. Magic ∷ (spelled_items k.items ++ Header header.Program ∷ x)) (sym (map-append Body (so_far s.tree) (m ∷ [])) ∙ ap (map Body) (sym (so_far-grown s.tree m u) ∙ ap so_far (sym g)));
+  settings = e ∙ k.settings;
+  named = ap (λ x. is_some x.target) e ∙ k.named;
+}
+
+suits_closed : (t : Tree) → IsClosed t → Suits t mark.Rung
+suits_closed (Closed gs) h = tt
+suits_closed (Building gs fs ns) h = absurd h
+
+suits_open : (t : Tree) (m : Mark) → IsBuilding t → AllowedAt site.Inside (Body m) → Suits t m
+suits_open (Closed gs) m h a = absurd h
+suits_open (Building gs fs ns) mark.Rung h a = absurd a
+suits_open (Building gs fs ns) (mark.Open c) h a = tt
+suits_open (Building gs fs ns) mark.End h a = tt
+suits_open (Building gs fs ns) (mark.Element l) h a = tt
+
+-- where a rung ends, the place is between rungs, and else in one
+ends_at : (p : Place) (t : Tree) (fs : List Form) (s : Standing) → p.site ≡ site.Inside → IsBuilding t → depth_at t ≡ p.depth → s.tree ≡ grown t mark.End → InBody fs s → KnowsAt (behind_mark p mark.End).site fs s
+ends_at p (Closed gs) fs s e h d g k = absurd h
+ends_at p (Building gs [] ns) fs s e h d g k = by (eqb p.depth 0) (zero p.depth (sym d))
+  where
+    zero : (k : ℕ) → k ≡ 0 → eqb k 0 ≡ true
+    zero k h = grind (arith, nat_tests)
+
+    by : (b : Bool) → b ≡ true → KnowsAt (cond b (record p { site = site.Between }) (record p { depth = p.depth - 1 })).site fs s
+    by true x = (k, subst IsClosed (sym g) tt)
+    by false x = absurd cc
+ends_at p (Building gs (f ∷ rest) ns) fs s e h d g k = by (eqb p.depth 0) (no_depth p.depth (length rest) (omega arith))
+  where
+    by : (b : Bool) → b ≡ false → KnowsAt (cond b (record p { site = site.Between }) (record p { depth = p.depth - 1 })).site fs s
+    by true x = absurd cc
+    by false x = subst (λ y. KnowsAt y fs s) (sym e) (k, subst IsBuilding (sym g) tt)
+
+and_false : (a b : Bool) → not a ≡ true → (not a && (b)) ≡ false → b ≡ false
+and_false true b h e = absurd cc
+and_false false b h e = e
+
+or_right : (a b : Bool) → (a || b) ≡ false → b ≡ false
+or_right true b h = absurd cc
+or_right false b h = h
+
+or_left : (a b : Bool) → (a || b) ≡ false → a ≡ false
+or_left true b h = absurd cc
+or_left false b h = refl
+
+not_first : (x : Site) → (x ≡ site.First → ⊥) → not (is_first x) ≡ true
+not_first site.First h = absurd (h refl)
+not_first site.Header h = refl
+not_first site.Pins h = refl
+not_first site.Between h = refl
+not_first site.Inside h = refl
+
+built_if : (b : Bool) → not b ≡ false → b ≡ true
+built_if true h = refl
+built_if false h = absurd cc
+
+chip_built : (s : Standing) (bytes : List ℕ) (size : ℕ) (t : Target) → s.place.site ≡ site.Header → Passes s.place bytes size (Is (Header (header.Micro (Some t)))) → is_target_built t ≡ true
+chip_built s bytes size t e p =
+    let rows = ap (λ x. not (is_first x) && (begins_unbuilt s.place.target (tokens bytes) || not (is_target_built t))) (sym e) ∙ p.built in
+    built_if (is_target_built t) (or_right (begins_unbuilt s.place.target (tokens bytes)) (not (is_target_built t)) rows)
+
+no_chip : (o : Option Target) → is_chipless o (Is (Header (header.Micro None))) ≡ false → ⊥
+no_chip None h = absurd cc
+no_chip (Some t) h = absurd cc
+
+has_chip : (o : Option Target) → is_chipless o (Is (Header header.Program)) ≡ false → is_some o ≡ true
+has_chip None h = absurd cc
+has_chip (Some t) h = refl
+
+element_good : (s : Standing) (number : ℕ) (bytes : List ℕ) (size : ℕ) (l : leaf.Leaf) → s.place.site ≡ site.Inside → IsBuilt s.place.target → said_in site.Inside number bytes ≡ Is (Body (mark.Element l)) → Passes s.place bytes size (Is (Body (mark.Element l))) → is_good l ≡ true
+element_good s number bytes size l e b h p =
+    let w = element_worded number bytes l h in
+    let rows = ap (λ x. not (is_first x) && (begins_unbuilt s.place.target (tokens bytes) || false)) (sym e) ∙ p.built in
+    let bits = worded_bits s.place.target bytes l.kind b (or_left (begins_unbuilt s.place.target (tokens bytes)) false rows) w in
+    let read = in_their_ranges w.word w.rest bytes l.kind w.said in
+    rw (read, bits) refl
+
+abbrev with_pins : Settings → List pin.PinLine → Settings
+with_pins s ls = record s { pins = ls }
+
+-- What a line that has no fault says is spelled behind what was.
+knows_at : (x : Site) (s : Standing) (bytes : List ℕ) (size : ℕ) (fs : List Form) (form : Form) → s.place.site ≡ x → KnowsAt x fs s → Knows fs s → AllowedAt x form → Passes s.place bytes size (Is form) → KnowsAt (standing_behind size s form).place.site (fs ++ one form) (standing_behind size s form)
+knows_at site.First s bytes size fs Magic e k all a p = record { items = []; spelled = ap (λ x. x ++ Magic ∷ []) k.0; settings = k.1; tree = k.2 }
+knows_at site.First s bytes size fs Blank e k all a p = absurd a
+knows_at site.First s bytes size fs (Header h) e k all a p = absurd a
+knows_at site.First s bytes size fs (Pins q) e k all a p = absurd a
+knows_at site.First s bytes size fs (Body m) e k all a p = absurd a
+knows_at site.Header s bytes size fs Blank e k all a p =
+    subst (λ y. KnowsAt y (fs ++ []) (standing_behind size s Blank)) (sym e) (record { items = k.items; spelled = append-nil fs ∙ k.spelled; settings = k.settings; tree = k.tree })
+knows_at site.Header s bytes size fs (Header (header.Micro (Some t))) e k all a p =
+    subst (λ y. KnowsAt y (fs ++ Header (header.Micro (Some t)) ∷ []) (standing_behind size s (Header (header.Micro (Some t))))) (sym e) (header_item fs s _ _ (Chip t) k refl refl refl)
+knows_at site.Header s bytes size fs (Header (header.Micro None)) e k all a p = absurd (no_chip s.place.target p.chip)
+knows_at site.Header s bytes size fs (Header (header.Cycle n)) e k all a p =
+    subst (λ y. KnowsAt y (fs ++ Header (header.Cycle n) ∷ []) (standing_behind size s (Header (header.Cycle n)))) (sym e) (header_item fs s _ _ (Cycle n) k refl refl refl)
+knows_at site.Header s bytes size fs (Header (header.Crystal n)) e k all a p =
+    subst (λ y. KnowsAt y (fs ++ Header (header.Crystal n) ∷ []) (standing_behind size s (Header (header.Crystal n)))) (sym e) (header_item fs s _ _ (Crystal n) k refl refl refl)
+knows_at site.Header s bytes size fs (Header (header.Baud n)) e k all a p =
+    subst (λ y. KnowsAt y (fs ++ Header (header.Baud n) ∷ []) (standing_behind size s (Header (header.Baud n)))) (sym e) (header_item fs s _ _ (Baud n) k refl refl refl)
+knows_at site.Header s bytes size fs (Header header.Compiled) e k all a p =
+    subst (λ y. KnowsAt y (fs ++ Header header.Compiled ∷ []) (standing_behind size s (Header header.Compiled))) (sym e) (header_item fs s _ _ Compiled k refl refl refl)
+knows_at site.Header s bytes size fs (Header header.Pins) e k all a p = record {
+  items = k.items;
+  lines = [];
+  spelled = ap (λ x. x ++ Header header.Pins ∷ []) k.spelled;
+  settings = k.settings ∙ sym (ap (with_pins (with_items defaults k.items)) (append-nil (with_items defaults k.items).pins));
+  tree = k.tree;
+}
+knows_at site.Header s bytes size fs (Header header.Program) e k all a p = (
+  record {
+    items = k.items;
+    spelled = ap (λ x. x ++ Header header.Program ∷ []) k.spelled ∙ ap (λ x. Magic ∷ (spelled_items k.items ++ Header header.Program ∷ map Body (so_far x))) (sym k.tree);
+    settings = k.settings;
+    named = ap is_some all.target ∙ has_chip s.place.target p.chip;
+  },
+  subst IsClosed (sym k.tree) tt,
+)
+knows_at site.Header s bytes size fs Magic e k all a p = absurd a
+knows_at site.Header s bytes size fs (Pins q) e k all a p = absurd a
+knows_at site.Header s bytes size fs (Body m) e k all a p = absurd a
+knows_at site.Pins s bytes size fs Blank e k all a p =
+    subst (λ y. KnowsAt y (fs ++ []) (standing_behind size s Blank)) (sym e) (record { items = k.items; lines = k.lines; spelled = append-nil fs ∙ k.spelled; settings = k.settings; tree = k.tree })
+knows_at site.Pins s bytes size fs (Pins (pins.Pin l)) e k all a p =
+    subst (λ y. KnowsAt y (fs ++ Pins (pins.Pin l) ∷ []) (standing_behind size s (Pins (pins.Pin l)))) (sym e) (record {
+      items = k.items;
+      lines = k.lines ++ l ∷ [];
+      spelled =
+          ap (λ x. x ++ Pins (pins.Pin l) ∷ []) k.spelled
+          ∙ ap (λ x. Magic ∷ x) (append_assoc (spelled_items k.items) (Header header.Pins ∷ pin_forms k.lines) (Pins (pins.Pin l) ∷ []))
+          ∙ ap (λ x. Magic ∷ (spelled_items k.items ++ Header header.Pins ∷ x)) (sym (map-append (λ l. Pins (pins.Pin l)) k.lines (l ∷ [])));
+      settings = ap (λ x. with_pins x (x.pins ++ l ∷ [])) k.settings ∙ ap (with_pins (with_items defaults k.items)) (append_assoc (with_items defaults k.items).pins k.lines (l ∷ []));
+      tree = k.tree;
+    })
+knows_at site.Pins s bytes size fs (Pins pins.End) e k all a p = record {
+  items = k.items ++ PinSection k.lines ∷ [];
+  spelled =
+      ap (λ x. x ++ Pins pins.End ∷ []) k.spelled
+      ∙ ap (λ x. Magic ∷ x) (append_assoc (spelled_items k.items) (Header header.Pins ∷ pin_forms k.lines) (Pins pins.End ∷ []))
+      ∙ ap (λ x. Magic ∷ x) (sym (spelled_items-one k.items (PinSection k.lines)));
+  settings = k.settings ∙ sym (with_items-one defaults k.items (PinSection k.lines));
+  tree = k.tree;
+}
+knows_at site.Pins s bytes size fs Magic e k all a p = absurd a
+knows_at site.Pins s bytes size fs (Header h) e k all a p = absurd a
+knows_at site.Pins s bytes size fs (Body m) e k all a p = absurd a
+knows_at site.Between s bytes size fs Blank e k all a p =
+    subst (λ y. KnowsAt y (fs ++ []) (standing_behind size s Blank)) (sym e) (record { items = k.0.items; spelled = append-nil fs ∙ k.0.spelled; settings = k.0.settings; named = k.0.named }, k.1)
+knows_at site.Between s bytes size fs (Body mark.Rung) e k all a p =
+    (body_more fs s mark.Rung (standing_behind size s (Body mark.Rung)) k.0 (suits_closed s.tree k.1) refl refl, building s.tree k.1)
+  where
+    building : (t : Tree) → IsClosed t → IsBuilding (grown t mark.Rung)
+    building (Closed gs) h = tt
+    building (Building gs fs ns) h = absurd h
+knows_at site.Between s bytes size fs (Body (mark.Open c)) e k all a p = absurd a
+knows_at site.Between s bytes size fs (Body mark.End) e k all a p = absurd a
+knows_at site.Between s bytes size fs (Body (mark.Element l)) e k all a p = absurd a
+knows_at site.Between s bytes size fs Magic e k all a p = absurd a
+knows_at site.Between s bytes size fs (Header h) e k all a p = absurd a
+knows_at site.Between s bytes size fs (Pins q) e k all a p = absurd a
+knows_at site.Inside s bytes size fs Blank e k all a p =
+    subst (λ y. KnowsAt y (fs ++ []) (standing_behind size s Blank)) (sym e) (record { items = k.0.items; spelled = append-nil fs ∙ k.0.spelled; settings = k.0.settings; named = k.0.named }, k.1)
+knows_at site.Inside s bytes size fs (Body mark.Rung) e k all a p = absurd a
+knows_at site.Inside s bytes size fs (Body (mark.Open c)) e k all a p =
+    subst (λ y. KnowsAt y (fs ++ Body (mark.Open c) ∷ []) (standing_behind size s (Body (mark.Open c)))) (sym e)
+    (body_more fs s (mark.Open c) (standing_behind size s (Body (mark.Open c))) k.0 (suits_open s.tree (mark.Open c) k.1 tt) refl refl, building s.tree k.1)
+  where
+    building : (t : Tree) → IsBuilding t → IsBuilding (grown t (mark.Open c))
+    building (Closed gs) h = absurd h
+    building (Building gs fs ns) h = tt
+knows_at site.Inside s bytes size fs (Body mark.End) e k all a p =
+    ends_at s.place s.tree (fs ++ Body mark.End ∷ []) (standing_behind size s (Body mark.End)) e k.1 all.counts.depth refl
+    (body_more fs s mark.End (standing_behind size s (Body mark.End)) k.0 (suits_open s.tree mark.End k.1 tt) refl refl)
+knows_at site.Inside s bytes size fs (Body (mark.Element l)) e k all a p =
+    subst (λ y. KnowsAt y (fs ++ Body (mark.Element l) ∷ []) (standing_behind size s (Body (mark.Element l)))) (sym e)
+    (body_more fs s (mark.Element l) (standing_behind size s (Body (mark.Element l))) k.0 (suits_open s.tree (mark.Element l) k.1 tt) refl refl, building s.tree k.1)
+  where
+    building : (t : Tree) → IsBuilding t → IsBuilding (grown t (mark.Element l))
+    building (Closed gs) h = absurd h
+    building (Building gs fs ns) h = tt
+knows_at site.Inside s bytes size fs Magic e k all a p = absurd a
+knows_at site.Inside s bytes size fs (Header h) e k all a p = absurd a
+knows_at site.Inside s bytes size fs (Pins q) e k all a p = absurd a
+
+-- a line of a rung suits the tree
+suits_at : (x : Site) (fs : List Form) (s : Standing) (m : Mark) → KnowsAt x fs s → AllowedAt x (Body m) → Suits s.tree m
+suits_at site.First fs s m k a = absurd a
+suits_at site.Header fs s m k a = absurd a
+suits_at site.Pins fs s m k a = absurd a
+suits_at site.Between fs s mark.Rung k a = suits_closed s.tree k.1
+suits_at site.Between fs s (mark.Open c) k a = absurd a
+suits_at site.Between fs s mark.End k a = absurd a
+suits_at site.Between fs s (mark.Element l) k a = absurd a
+suits_at site.Inside fs s m k a = suits_open s.tree m k.1 a
+
+good_at : (x : Site) (s : Standing) (number : ℕ) (bytes : List ℕ) (size : ℕ) (m : Mark) → s.place.site ≡ x → IsBuilt s.place.target → said_in x number bytes ≡ Is (Body m) → AllowedAt x (Body m) → Passes s.place bytes size (Is (Body m)) → IsGood m
+good_at x s number bytes size mark.Rung e b h a p = tt
+good_at x s number bytes size (mark.Open c) e b h a p = tt
+good_at x s number bytes size mark.End e b h a p = tt
+good_at site.First s number bytes size (mark.Element l) e b h a p = absurd a
+good_at site.Header s number bytes size (mark.Element l) e b h a p = absurd a
+good_at site.Pins s number bytes size (mark.Element l) e b h a p = absurd a
+good_at site.Between s number bytes size (mark.Element l) e b h a p = absurd a
+good_at site.Inside s number bytes size (mark.Element l) e b h a p = element_good s number bytes size l e b h p
+
+-- the counts, the target and its being built, behind a line
+pub record Kept (t : Standing) : Type 0 where
+  pub counts : Counts t.place t.tree
+  pub target : t.settings.target ≡ t.place.target
+  pub built : IsBuilt t.place.target
+
+same_place : (s : Standing) (size : ℕ) (form : Form) → Kept s → (standing_behind size s form).place.rungs ≡ s.place.rungs → (standing_behind size s form).place.elements ≡ s.place.elements → (standing_behind size s form).place.openings ≡ s.place.openings → (standing_behind size s form).place.depth ≡ s.place.depth → with_form s.tree form ≡ s.tree → (settings_behind s.settings form).target ≡ s.settings.target → (standing_behind size s form).place.target ≡ s.place.target → Kept (standing_behind size s form)
+same_place s size form k a b c d t g h = record {
+  counts = subst (λ x. Counts (standing_behind size s form).place x) (sym t) (same_counts s.place (standing_behind size s form).place s.tree a b c d k.counts);
+  target = g ∙ k.target ∙ sym h;
+  built = subst IsBuilt (sym h) k.built;
+}
+
+header_site : (x : Site) (h : HeaderLine) → AllowedAt x (Header h) → x ≡ site.Header
+header_site site.Header h a = refl
+header_site site.First h a = absurd a
+header_site site.Pins h a = absurd a
+header_site site.Between h a = absurd a
+header_site site.Inside h a = absurd a
+
+end_target : (p : Place) (b : Bool) → (cond b (record p { site = site.Between }) (record p { depth = p.depth - 1 })).target ≡ p.target
+end_target p true = refl
+end_target p false = refl
+
+mark_target : (p : Place) (m : Mark) → (behind_mark p m).target ≡ p.target
+mark_target p mark.Rung = refl
+mark_target p (mark.Open c) = refl
+mark_target p mark.End = end_target p (eqb p.depth 0)
+mark_target p (mark.Element l) = refl
+
+kept_of : (fs : List Form) (s : Standing) → Knows fs s → Kept s
+kept_of fs s k = record { counts = k.counts; target = k.target; built = k.built }
+
+kept_behind : (s : Standing) (number : ℕ) (bytes : List ℕ) (size : ℕ) (fs : List Form) (form : Form) → Knows fs s → said_in s.place.site number bytes ≡ Is form → AllowedAt s.place.site form → Passes s.place bytes size (Is form) → RoomFor s.place form → Kept (standing_behind size s form)
+kept_behind s number bytes size fs Blank k h a p r = same_place s size Blank (kept_of fs s k) refl refl refl refl refl refl refl
+kept_behind s number bytes size fs Magic k h a p r = same_place s size Magic (kept_of fs s k) refl refl refl refl refl refl refl
+kept_behind s number bytes size fs (Header (header.Micro (Some t))) k h a p r = record {
+  counts = same_counts s.place (standing_behind size s (Header (header.Micro (Some t)))).place s.tree refl refl refl refl k.counts;
+  target = refl;
+  built = chip_built s bytes size t (header_site s.place.site (header.Micro (Some t)) a) p;
+}
+kept_behind s number bytes size fs (Header (header.Micro None)) k h a p r = absurd (no_chip s.place.target p.chip)
+kept_behind s number bytes size fs (Header (header.Cycle n)) k h a p r = same_place s size (Header (header.Cycle n)) (kept_of fs s k) refl refl refl refl refl refl refl
+kept_behind s number bytes size fs (Header (header.Crystal n)) k h a p r = same_place s size (Header (header.Crystal n)) (kept_of fs s k) refl refl refl refl refl refl refl
+kept_behind s number bytes size fs (Header (header.Baud n)) k h a p r = same_place s size (Header (header.Baud n)) (kept_of fs s k) refl refl refl refl refl refl refl
+kept_behind s number bytes size fs (Header header.Compiled) k h a p r = same_place s size (Header header.Compiled) (kept_of fs s k) refl refl refl refl refl refl refl
+kept_behind s number bytes size fs (Header header.Pins) k h a p r = same_place s size (Header header.Pins) (kept_of fs s k) refl refl refl refl refl refl refl
+kept_behind s number bytes size fs (Header header.Program) k h a p r = same_place s size (Header header.Program) (kept_of fs s k) refl refl refl refl refl refl refl
+kept_behind s number bytes size fs (Pins (pins.Pin l)) k h a p r = same_place s size (Pins (pins.Pin l)) (kept_of fs s k) refl refl refl refl refl refl refl
+kept_behind s number bytes size fs (Pins pins.End) k h a p r = same_place s size (Pins pins.End) (kept_of fs s k) refl refl refl refl refl refl refl
+kept_behind s number bytes size fs (Body m) k h a p r =
+    let grew = counts_grown s.place s.tree m k.counts (suits_at s.place.site fs s m k.spelled a) r (good_at s.place.site s number bytes size m refl k.built h a p) in
+    record {
+      counts = same_counts (behind_mark s.place m) (standing_behind size s (Body m)).place (grown s.tree m) refl refl refl refl grew;
+      target = k.target ∙ sym (mark_target s.place m);
+      built = subst IsBuilt (sym (mark_target s.place m)) k.built;
+    }
+
+-- the cycle time that a line says is in its range
+timed_by : (x : Site) (s : Standing) (number : ℕ) (bytes : List ℕ) (n : ℕ) → said_in x number bytes ≡ Is (Header (header.Cycle n)) → n ≤ most_setting
+timed_by x s number bytes n h = cycle_within n (settings_in_range bytes (header.Cycle n) (header_said x number bytes (header.Cycle n) h))
+  where
+    cycle_within : (n : ℕ) → is_read_setting (header.Cycle n) ≡ true → n ≤ most_setting
+    cycle_within n h = grind (arith, nat_tests)
+
+timed_behind : (s : Standing) (number : ℕ) (bytes : List ℕ) (size : ℕ) (form : Form) → s.settings.cycle ≤ most_setting → said_in s.place.site number bytes ≡ Is form → (standing_behind size s form).settings.cycle ≤ most_setting
+timed_behind s number bytes size Blank k h = k
+timed_behind s number bytes size Magic k h = k
+timed_behind s number bytes size (Header (header.Micro t)) k h = k
+timed_behind s number bytes size (Header (header.Cycle n)) k h = timed_by s.place.site s number bytes n h
+timed_behind s number bytes size (Header (header.Crystal n)) k h = k
+timed_behind s number bytes size (Header (header.Baud n)) k h = k
+timed_behind s number bytes size (Header header.Compiled) k h = k
+timed_behind s number bytes size (Header header.Pins) k h = k
+timed_behind s number bytes size (Header header.Program) k h = k
+timed_behind s number bytes size (Pins (pins.Pin l)) k h = k
+timed_behind s number bytes size (Pins pins.End) k h = k
+timed_behind s number bytes size (Body m) k h = k
+
+pub knows_more : (number : ℕ) (bytes : List ℕ) (size : ℕ) (s t : Standing) (fs : List Form) → Knows fs s → (w : Went number bytes size s t) → Knows (fs ++ one w.form) t
+knows_more number bytes size s t fs k w =
+    let e = ap (fault_of s.place number bytes size) (sym w.said) ∙ w.faultless in
+    let p = passes s.place number bytes size (Is w.form) e in
+    let r = room s.place number bytes size w.form e in
+    let a = allowed s.place.site number bytes w.form w.said in
+    let kept = kept_behind s number bytes size fs w.form k w.said a p r.1 in
+    subst (Knows (fs ++ one w.form)) (sym w.is) (record {
+      spelled = knows_at s.place.site s bytes size fs w.form refl k.spelled k a p;
+      counts = kept.counts;
+      target = kept.target;
+      built = kept.built;
+      timed = timed_behind s number bytes size w.form k.timed w.said;
+    })
+
+unblank : (form : Form) (more : List Form) → unblanked (Is form) (map Is more) ≡ map Is (one form ++ more)
+unblank Blank more = refl
+unblank Magic more = refl
+unblank (Header h) more = refl
+unblank (Pins q) more = refl
+unblank (Body m) more = refl
+
+-- what lines said, and what is known behind them
+pub record Told (p : Place) (n : ℕ) (ls : List Line) (fs : List Form) (t : Standing) : Type 0 where
+  pub more : List Form
+  pub said : said_by p n ls ≡ map Is more
+  pub knows : Knows (fs ++ more) t
+
+pub told : (n : ℕ) (ls : List Line) (s t : Standing) (fs : List Form) → Knows fs s → run n ls s ≡ Goes t → Told s.place n ls fs t
+told n [] s t fs k h = let e : s ≡ t = cc in record { more = []; said = refl; knows = subst (λ x. Knows x t) (sym (append-nil fs)) (subst (Knows fs) e k) }
+told n (l ∷ ls) s t fs k h = by (taken n l.bytes (size_of l) s) refl h (λ u gs. told (n + 1) ls u t gs)
+  where
+    by : (o : Taken) → taken n l.bytes (size_of l) s ≡ o → then (run (n + 1) ls) o ≡ Goes t → ((u : Standing) (gs : List Form) → Knows gs u → run (n + 1) ls u ≡ Goes t → Told u.place (n + 1) ls gs t) → Told s.place n (l ∷ ls) fs t
+    by (Stops f) e h rec = absurd cc
+    by (Goes u) e h rec =
+        let w = goes n l.bytes (size_of l) s u e in
+        let q = rec u (fs ++ one w.form) (knows_more n l.bytes (size_of l) s u fs k w) h in
+        let place : behind s.place n l ≡ u.place = ap (behind_said s.place (size_of l)) w.said ∙ sym (ap (λ x. x.place) w.is) in
+        record {
+          more = one w.form ++ q.more;
+          said = ap (λ x. unblanked x (said_by (behind s.place n l) (n + 1) ls)) w.said ∙ ap (λ x. unblanked (Is w.form) (said_by x (n + 1) ls)) place ∙ ap (unblanked (Is w.form)) q.said ∙ unblank w.form q.more;
+          knows = subst (λ x. Knows x t) (append_assoc fs (one w.form) q.more) q.knows;
+        }

@@ -1,0 +1,251 @@
+-- What lines can say at a place, and what is known of the elements that they say.
+use Rattle.std.proofs.Common.{◌≡◌, ℕ, Bool, true, false, not, cond, eqb, length, ◌&&◌, ◌||◌, List, [], ◌∷◌, Option, Some, None, refl, sym, ap, subst, ◌∙◌}
+use Rattle.chip_tables.specs.declared.target.Target.{Target}
+use Rattle.chip_tables.specs.declared.target.Target.TheVariants.{Interp, F628, F877, Mega16, AnsiC}
+use Rattle.ladder_tree.specs.declared.element.Leaf as leaf
+use Rattle.ladder_tree.specs.declared.element.LeafKind.{LeafKind}
+use Rattle.ladder_tree.specs.declared.element.LeafKind.TheVariants as kind
+use Rattle.ladder_tree.specs.declared.element.CoilMode.{CoilMode}
+use Rattle.ld_line.specs.Elements.{contacts, coil, comment, element_of}
+use Rattle.ld_line.specs.Header.{header_of}
+use Rattle.ld_line.specs.Operands.{name, flag}
+use Rattle.ld_line.specs.Pins.{pin_of_line}
+use Rattle.ld_line.specs.Range.{is_read_kind}
+use Rattle.ld_line.specs.Rungs.{alone, alone_or, element_by, rung_tokens_say, rung_line_of}
+use Rattle.ld_line.specs.Said.{bare, said_map, said_then, both}
+use Rattle.ld_line.specs.Tokens.{tokens, is_magic, comment_text}
+use Rattle.ld_line.specs.Words.{word_of, is_built, is_bit_word, is_target_built}
+use Rattle.ld_line.specs.declared.said.Said.{Said}
+use Rattle.ld_line.specs.declared.said.Said.TheVariants.{Bad, Range, Is}
+use Rattle.ld_line.specs.declared.header.HeaderLine.{HeaderLine}
+use Rattle.ld_line.specs.declared.pins.PinsLine.{PinsLine}
+use Rattle.ld_line.specs.declared.rungs.Circuit.TheVariants as circuit
+use Rattle.ld_line.specs.declared.rungs.RungLine.{RungLine}
+use Rattle.ld_line.specs.declared.rungs.RungLine.TheVariants as rung
+use Rattle.ld_line.specs.declared.word.Word.{Word}
+use Rattle.ld_line.specs.declared.word.Word.TheVariants as word
+use Rattle.ld_text.specs.declared.form.Mark.{Mark}
+use Rattle.ld_text.specs.declared.form.Mark.TheVariants as mark
+use Rattle.ld_text.specs.declared.form.Form.{Form}
+use Rattle.ld_text.specs.declared.form.Form.TheVariants.{Blank, Magic, Header, Pins, Body}
+use Rattle.ld_text.specs.declared.place.Site.{Site}
+use Rattle.ld_text.specs.declared.place.Site.TheVariants as site
+use Rattle.ld_text.specs.Faults.{begins_unbuilt, has_unbuilt_word, is_word_built}
+use Rattle.ld_text.specs.Place.{unless_blank, between, inside, said_in}
+use Rattle.ladder_tree.specs.BitWords as bits
+
+-- the forms that lines can say at a part of a text
+abbrev pub AllowedAt : Site → Form → Type 0
+AllowedAt site.First Magic = Unit {0}
+AllowedAt site.First Blank = ⊥
+AllowedAt site.First (Header h) = ⊥
+AllowedAt site.First (Pins q) = ⊥
+AllowedAt site.First (Body m) = ⊥
+AllowedAt site.Header Blank = Unit {0}
+AllowedAt site.Header (Header h) = Unit {0}
+AllowedAt site.Header Magic = ⊥
+AllowedAt site.Header (Pins q) = ⊥
+AllowedAt site.Header (Body m) = ⊥
+AllowedAt site.Pins Blank = Unit {0}
+AllowedAt site.Pins (Pins q) = Unit {0}
+AllowedAt site.Pins Magic = ⊥
+AllowedAt site.Pins (Header h) = ⊥
+AllowedAt site.Pins (Body m) = ⊥
+AllowedAt site.Between Blank = Unit {0}
+AllowedAt site.Between (Body mark.Rung) = Unit {0}
+AllowedAt site.Between (Body (mark.Open c)) = ⊥
+AllowedAt site.Between (Body mark.End) = ⊥
+AllowedAt site.Between (Body (mark.Element l)) = ⊥
+AllowedAt site.Between Magic = ⊥
+AllowedAt site.Between (Header h) = ⊥
+AllowedAt site.Between (Pins q) = ⊥
+AllowedAt site.Inside Blank = Unit {0}
+AllowedAt site.Inside (Body mark.Rung) = ⊥
+AllowedAt site.Inside (Body (mark.Open c)) = Unit {0}
+AllowedAt site.Inside (Body mark.End) = Unit {0}
+AllowedAt site.Inside (Body (mark.Element l)) = Unit {0}
+AllowedAt site.Inside Magic = ⊥
+AllowedAt site.Inside (Header h) = ⊥
+AllowedAt site.Inside (Pins q) = ⊥
+
+abbrev AllowedAs : Site → Said Form → Type 0
+AllowedAs x (Is form) = AllowedAt x form
+AllowedAs x Bad = Unit {0}
+AllowedAs x Range = Unit {0}
+
+first_allowed : (b : Bool) → AllowedAs site.First (cond b (Is Magic) Bad)
+first_allowed true = tt
+first_allowed false = tt
+
+header_allowed : (ts : List (List ℕ)) (x : Said HeaderLine) → AllowedAs site.Header (unless_blank ts (said_map Header x))
+header_allowed [] x = tt
+header_allowed (t ∷ ts) (Is h) = tt
+header_allowed (t ∷ ts) Bad = tt
+header_allowed (t ∷ ts) Range = tt
+
+pins_allowed : (ts : List (List ℕ)) (x : Said PinsLine) → AllowedAs site.Pins (unless_blank ts (said_map Pins x))
+pins_allowed [] x = tt
+pins_allowed (t ∷ ts) (Is h) = tt
+pins_allowed (t ∷ ts) Bad = tt
+pins_allowed (t ∷ ts) Range = tt
+
+between_allowed : (ts : List (List ℕ)) (x : Said RungLine) → AllowedAs site.Between (unless_blank ts (between x))
+between_allowed [] x = tt
+between_allowed (t ∷ ts) (Is rung.Rung) = tt
+between_allowed (t ∷ ts) (Is (rung.Open c)) = tt
+between_allowed (t ∷ ts) (Is rung.End) = tt
+between_allowed (t ∷ ts) (Is (rung.Element k)) = tt
+between_allowed (t ∷ ts) Bad = tt
+between_allowed (t ∷ ts) Range = tt
+
+inside_allowed : (number : ℕ) (ts : List (List ℕ)) (x : Said RungLine) → AllowedAs site.Inside (unless_blank ts (inside number x))
+inside_allowed number [] x = tt
+inside_allowed number (t ∷ ts) (Is rung.Rung) = tt
+inside_allowed number (t ∷ ts) (Is (rung.Open c)) = tt
+inside_allowed number (t ∷ ts) (Is rung.End) = tt
+inside_allowed number (t ∷ ts) (Is (rung.Element k)) = tt
+inside_allowed number (t ∷ ts) Bad = tt
+inside_allowed number (t ∷ ts) Range = tt
+
+said_allowed : (x : Site) (number : ℕ) (bytes : List ℕ) → AllowedAs x (said_in x number bytes)
+said_allowed site.First number bytes = first_allowed (is_magic bytes)
+said_allowed site.Header number bytes = header_allowed (tokens bytes) (header_of bytes)
+said_allowed site.Pins number bytes = pins_allowed (tokens bytes) (pin_of_line (tokens bytes))
+said_allowed site.Between number bytes = between_allowed (tokens bytes) (rung_line_of bytes)
+said_allowed site.Inside number bytes = inside_allowed number (tokens bytes) (rung_line_of bytes)
+
+pub allowed : (x : Site) (number : ℕ) (bytes : List ℕ) (form : Form) → said_in x number bytes ≡ Is form → AllowedAt x form
+allowed x number bytes form h = subst (AllowedAs x) h (said_allowed x number bytes)
+
+-- an element that is said has a word
+pub record Worded (bytes : List ℕ) (k : LeafKind) : Type 0 where
+  pub token : List ℕ
+  pub rest : List (List ℕ)
+  pub word : Word
+  pub tokens : tokens bytes ≡ token ∷ rest
+  pub known : word_of token ≡ Some word
+  pub said : element_of word rest bytes ≡ Is k
+
+mapped_element : (x : Said LeafKind) (k : LeafKind) → said_map rung.Element x ≡ Is (rung.Element k) → x ≡ Is k
+mapped_element Bad k h = absurd cc
+mapped_element Range k h = absurd cc
+mapped_element (Is j) k h = let same : rung.Element j ≡ rung.Element k = cc in let inner : j ≡ k = cc in ap Is inner
+
+-- a line that is one of the four words says no element
+no_alone : (token : List ℕ) (b c d e : Bool) (ts : List (List ℕ)) (other : Said RungLine) (k : LeafKind) → alone_or (cond b (Some rung.Rung) (cond c (Some (rung.Open circuit.Series)) (cond d (Some (rung.Open circuit.Parallel)) (cond e (Some rung.End) None)))) ts other ≡ Is (rung.Element k) → other ≡ Is (rung.Element k)
+no_alone token true c d e [] other k h = absurd cc
+no_alone token true c d e (t ∷ ts) other k h = absurd cc
+no_alone token false true d e [] other k h = absurd cc
+no_alone token false true d e (t ∷ ts) other k h = absurd cc
+no_alone token false false true e [] other k h = absurd cc
+no_alone token false false true e (t ∷ ts) other k h = absurd cc
+no_alone token false false false true [] other k h = absurd cc
+no_alone token false false false true (t ∷ ts) other k h = absurd cc
+no_alone token false false false false ts other k h = h
+
+rung_worded : (ts : List (List ℕ)) (bytes : List ℕ) (k : LeafKind) → tokens bytes ≡ ts → rung_tokens_say ts bytes ≡ Is (rung.Element k) → Worded bytes k
+rung_worded [] bytes k e h = absurd cc
+rung_worded (token ∷ ts) bytes k e h = by (word_of token) refl (no_alone token _ _ _ _ ts (element_by (word_of token) ts bytes) k h)
+  where
+    by : (o : Option Word) → word_of token ≡ o → element_by o ts bytes ≡ Is (rung.Element k) → Worded bytes k
+    by None f g = absurd cc
+    by (Some w) f g = record { token = token; rest = ts; word = w; tokens = e; known = f; said = mapped_element (element_of w ts bytes) k g }
+
+inside_element : (number : ℕ) (ts : List (List ℕ)) (x : Said RungLine) (l : leaf.Leaf) → unless_blank ts (inside number x) ≡ Is (Body (mark.Element l)) → x ≡ Is (rung.Element l.kind)
+inside_element number [] x l h = absurd cc
+inside_element number (t ∷ ts) (Is rung.Rung) l h = absurd cc
+inside_element number (t ∷ ts) (Is (rung.Open c)) l h = absurd cc
+inside_element number (t ∷ ts) (Is rung.End) l h = absurd cc
+inside_element number (t ∷ ts) (Is (rung.Element k)) l h =
+    let same : Body (mark.Element (record { line = number; kind = k })) ≡ Body (mark.Element l) = cc in
+    let inner : mark.Element (record { line = number; kind = k }) ≡ mark.Element l = cc in
+    let leaves : record { line = number; kind = k } ≡ l = cc in
+    ap (λ x. Is (rung.Element x.kind)) leaves
+inside_element number (t ∷ ts) Bad l h = absurd cc
+inside_element number (t ∷ ts) Range l h = absurd cc
+
+pub element_worded : (number : ℕ) (bytes : List ℕ) (l : leaf.Leaf) → said_in site.Inside number bytes ≡ Is (Body (mark.Element l)) → Worded bytes l.kind
+element_worded number bytes l h = rung_worded (tokens bytes) bytes l.kind refl (inside_element number (tokens bytes) (rung_line_of bytes) l h)
+
+-- the elements of relay logic
+
+mapped_bits : {A : Type 0} (make : A → LeafKind) (x : Said A) (k : LeafKind) → ((a : A) → bits.is_bit_word (make a) ≡ true) → said_map make x ≡ Is k → bits.is_bit_word k ≡ true
+mapped_bits make Bad k all h = absurd cc
+mapped_bits make Range k all h = absurd cc
+mapped_bits make (Is a) k all h = let same : make a ≡ k = cc in ap bits.is_bit_word (sym same) ∙ all a
+
+bare_bits : (made : LeafKind) (ts : List (List ℕ)) (k : LeafKind) → bits.is_bit_word made ≡ true → bare made ts ≡ Is k → bits.is_bit_word k ≡ true
+bare_bits made [] k b h = let same : made ≡ k = cc in ap bits.is_bit_word (sym same) ∙ b
+bare_bits made (t ∷ ts) k b h = absurd cc
+
+contacts_bits : (ts : List (List ℕ)) (k : LeafKind) → contacts ts ≡ Is k → bits.is_bit_word k ≡ true
+contacts_bits [] k h = absurd cc
+contacts_bits (n ∷ []) k h = absurd cc
+contacts_bits (n ∷ f ∷ []) k h = mapped_bits _ (both (name n) (flag f)) k (λ a. refl) h
+contacts_bits (n ∷ f ∷ t ∷ ts) k h = absurd cc
+
+coil_bits : (ts : List (List ℕ)) (k : LeafKind) → coil ts ≡ Is k → bits.is_bit_word k ≡ true
+coil_bits [] k h = absurd cc
+coil_bits (n ∷ []) k h = absurd cc
+coil_bits (n ∷ a ∷ []) k h = absurd cc
+coil_bits (n ∷ a ∷ b ∷ []) k h = absurd cc
+coil_bits (n ∷ a ∷ b ∷ c ∷ []) k h = mapped_bits _ _ k (λ x. refl) h
+coil_bits (n ∷ a ∷ b ∷ c ∷ t ∷ ts) k h = absurd cc
+
+element_bits : (w : Word) (ts : List (List ℕ)) (bytes : List ℕ) (k : LeafKind) → is_bit_word w ≡ true → element_of w ts bytes ≡ Is k → bits.is_bit_word k ≡ true
+element_bits word.Contacts ts bytes k b h = contacts_bits ts k h
+element_bits word.Coil ts bytes k b h = coil_bits ts k h
+element_bits word.Osr ts bytes k b h = bare_bits kind.Osr ts k refl h
+element_bits word.Osf ts bytes k b h = bare_bits kind.Osf ts k refl h
+element_bits word.Short ts bytes k b h = bare_bits kind.Short ts k refl h
+element_bits word.Open ts bytes k b h = bare_bits kind.Open ts k refl h
+element_bits word.Comment ts bytes k b h = let same : kind.Comment (comment_text bytes) ≡ k = cc in ap bits.is_bit_word (sym same)
+element_bits word.MasterRelay ts bytes k b h = bare_bits kind.MasterRelay ts k refl h
+element_bits word.Placeholder ts bytes k b h = bare_bits kind.Placeholder ts k refl h
+element_bits _ ts bytes k b h = absurd cc
+
+-- the target is none, or one that is built
+abbrev pub IsBuilt : Option Target → Type 0
+IsBuilt None = Unit {0}
+IsBuilt (Some t) = is_target_built t ≡ true
+
+built_bits : (o : Option Target) (w : Word) → IsBuilt o → is_word_built o w ≡ true → is_bit_word w ≡ true
+built_bits None w b h = h
+built_bits (Some Interp) w b h = h
+built_bits (Some F628) w b h = absurd cc
+built_bits (Some F877) w b h = absurd cc
+built_bits (Some Mega16) w b h = absurd cc
+built_bits (Some AnsiC) w b h = absurd cc
+
+not_false : (b : Bool) → not b ≡ false → b ≡ true
+not_false true h = refl
+not_false false h = absurd cc
+
+-- where the line does not begin with a word that is not built, its element is one of relay logic
+pub worded_bits : (o : Option Target) (bytes : List ℕ) (k : LeafKind) → IsBuilt o → begins_unbuilt o (tokens bytes) ≡ false → Worded bytes k → bits.is_bit_word k ≡ true
+worded_bits o bytes k b h w =
+    let begins : has_unbuilt_word o (word_of w.token) ≡ false = ap (begins_unbuilt o) (sym w.tokens) ∙ h in
+    let unbuilt : not (is_word_built o w.word) ≡ false = ap (has_unbuilt_word o) (sym w.known) ∙ begins in
+    element_bits w.word w.rest bytes k (built_bits o w.word b (not_false (is_word_built o w.word) unbuilt)) w.said
+
+-- what a line above PROGRAM says that has tokens
+pub said_in-header : (x : Site) (number : ℕ) (bytes : List ℕ) (ts : List (List ℕ)) → x ≡ site.Header → ts ≡ tokens bytes → eqb (length ts) 0 ≡ false → said_in x number bytes ≡ said_map Header (header_of bytes)
+said_in-header x number bytes [] e h g = absurd cc
+said_in-header x number bytes (t ∷ ts) e h g = ap (λ y. said_in y number bytes) e ∙ ap (λ ts. unless_blank ts (said_map Header (header_of bytes))) (sym h)
+
+mapped_header : (x : Said HeaderLine) (h : HeaderLine) → said_map Header x ≡ Is (Header h) → x ≡ Is h
+mapped_header Bad h e = absurd cc
+mapped_header Range h e = absurd cc
+mapped_header (Is j) h e = let same : Header j ≡ Header h = cc in let inner : j ≡ h = cc in ap Is inner
+
+unblank_header : (ts : List (List ℕ)) (x : Said HeaderLine) (h : HeaderLine) → unless_blank ts (said_map Header x) ≡ Is (Header h) → x ≡ Is h
+unblank_header [] x h e = absurd cc
+unblank_header (t ∷ ts) x h e = mapped_header x h e
+
+-- a line of the header is said above PROGRAM alone
+pub header_said : (x : Site) (number : ℕ) (bytes : List ℕ) (h : HeaderLine) → said_in x number bytes ≡ Is (Header h) → header_of bytes ≡ Is h
+header_said site.Header number bytes h e = unblank_header (tokens bytes) (header_of bytes) h e
+header_said site.First number bytes h e = absurd (allowed site.First number bytes (Header h) e)
+header_said site.Pins number bytes h e = absurd (allowed site.Pins number bytes (Header h) e)
+header_said site.Between number bytes h e = absurd (allowed site.Between number bytes (Header h) e)
+header_said site.Inside number bytes h e = absurd (allowed site.Inside number bytes (Header h) e)

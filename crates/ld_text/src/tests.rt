@@ -1,0 +1,236 @@
+//! Each fault with its line, and texts in pieces.
+
+use crate::fault::TextError;
+use crate::read::read_project;
+use crate::reader::Reader;
+use ladder_tree::element::LeafKind;
+use ladder_tree::fault::ProjectFault;
+use ladder_tree::project::{Node, Project};
+use std::alloc::{AllocError, Global};
+use std::test::Fail;
+
+const TOP: &str =
+    "LDmicro0.1\nMICRO=Interpretable Byte Code\nCYCLE=10000\nCRYSTAL=4000000\nBAUD=2400\n\n";
+
+/// The number and the line of a text's fault; 0 and 0 where it is read.
+fn fault_of(alloc: Global, text: &str) -> Result<(u8, u32), AllocError> {
+    match read_project(alloc, text.as_bytes()) {
+        Ok(_) => Ok((0, 0)),
+        Err(TextError::Refused(fault)) => Ok((fault.number(), line_of(fault))),
+        Err(TextError::Memory(e)) => Err(e),
+    }
+}
+
+fn line_of(fault: ProjectFault) -> u32 {
+    match fault {
+        ProjectFault::NotProject { line }
+        | ProjectFault::BadLine { line }
+        | ProjectFault::LineTooLong { line }
+        | ProjectFault::TooDeep { line }
+        | ProjectFault::TooMany { line }
+        | ProjectFault::Unclosed { line }
+        | ProjectFault::UnknownChip { line }
+        | ProjectFault::NumberRange { line }
+        | ProjectFault::NotBuilt { line } => line,
+        _ => 0,
+    }
+}
+
+/// The parts one after another.
+fn joined(alloc: Global, parts: &[&str]) -> Result<String, AllocError> {
+    let mut text = String::new(alloc);
+    for part in parts {
+        text.push_str(part)?;
+    }
+    Ok(text)
+}
+
+/// The part so many times.
+fn repeated(alloc: Global, part: &str, times: u32) -> Result<String, AllocError> {
+    let mut text = String::new(alloc);
+    for _ in 0..times {
+        text.push_str(part)?;
+    }
+    Ok(text)
+}
+
+/// Line 7 and what follows.
+fn in_header(alloc: Global, lines: &str) -> Result<(u8, u32), AllocError> {
+    fault_of(alloc, joined(alloc, &[TOP, lines])?.as_str())
+}
+
+/// Line 12 and what follows, in a rung.
+fn in_rung(alloc: Global, lines: &str) -> Result<(u8, u32), AllocError> {
+    in_header(
+        alloc,
+        joined(alloc, &["IO LIST\nEND\n\nPROGRAM\nRUNG\n", lines])?.as_str(),
+    )
+}
+
+#[test]
+fn whole_texts(rt: HostRuntime) -> Result<(), Fail> {
+    let rows = [
+        ("", (1, 1)),
+        ("LDmicro0.2\n", (1, 1)),
+        ("\nLDmicro0.1\n", (1, 1)),
+        (" LDmicro0.1\t\r\r\n", (6, 2)),
+        ("LDmicro0.1", (6, 2)),
+        ("LDmicro0.1\nMICRO=Atmel AVR ATmega162 40-PDIP\n", (7, 2)),
+        ("LDmicro0.1\nMICRO=Atmel AVR ATmega16 40-PDIP\n", (27, 2)),
+        ("LDmicro0.1\nMICRO=a\tANSI\n", (7, 2)),
+        ("LDmicro0.1\nPROGRAM\n", (7, 2)),
+        ("LDmicro0.1\nMICRO= Interpretable\nPROGRAM", (0, 0)),
+        ("LDmicro0.1\nMICRO=Interpretable\nMICRO=x\n", (7, 3)),
+        ("LDmicro0.1\nTON Ta 1\n", (27, 2)),
+        ("LDmicro0.1\n\0\n", (2, 2)),
+    ];
+    for (text, want) in rows {
+        assert_eq!(rt; fault_of(rt.alloc(), text)?, want, "at {text:?}");
+    }
+    Ok(())
+}
+
+#[test]
+fn lines_of_the_header(rt: HostRuntime) -> Result<(), Fail> {
+    let rows = [
+        ("CYCLE=1000000000\n", (8, 7)),
+        ("CYCLE=-5\n", (8, 7)),
+        ("CYCLE= 5\n", (2, 7)),
+        ("BAUD=\n", (2, 7)),
+        ("COMPILED=a b c\n", (6, 8)),
+        ("IO LIST\n", (6, 8)),
+        ("IO  LIST\nXa at 255\nXa at -1\n", (8, 9)),
+        ("IO LIST\nXa at 256\n", (8, 8)),
+        ("IO LIST\nXa on 1\n", (2, 8)),
+        ("IO LIST\n9a at 1\n", (2, 8)),
+        ("IO LIST\nPERSIST p\n", (27, 8)),
+        ("END\n", (2, 7)),
+        ("PROGRAM\nCYCLE=1\n", (2, 8)),
+        ("PROGRAM\nEND\n", (2, 8)),
+        ("PROGRAM\n\nRUNG\nEND\n", (0, 0)),
+    ];
+    for (lines, want) in rows {
+        assert_eq!(rt; in_header(rt.alloc(), lines)?, want, "at {lines:?}");
+    }
+    Ok(())
+}
+
+#[test]
+fn lines_of_rungs(rt: HostRuntime) -> Result<(), Fail> {
+    let rows = [
+        ("", (6, 12)),
+        ("END\n", (0, 0)),
+        ("RUNG\n", (2, 12)),
+        ("END\nOSR\n", (2, 13)),
+        ("\tCONTACTS\t Xa  1 \r\nEND", (0, 0)),
+        ("CONTACTS Xa 00\n", (2, 12)),
+        ("CONTACTS Xa\n", (2, 12)),
+        ("COIL Ya 1 1 0\n", (2, 12)),
+        ("OSR 1\n", (2, 12)),
+        ("OSR\r \n", (2, 12)),
+        ("FORMATTED_STRING n 0\n", (27, 12)),
+        ("ADD a b c d\n", (27, 12)),
+        ("PARALLEL x\n", (2, 12)),
+        ("SERIES\nPARALLEL\nEND\n", (6, 15)),
+        ("WIRE\n", (2, 12)),
+    ];
+    for (lines, want) in rows {
+        let found = in_rung(rt.alloc(), lines)?;
+        assert_eq!(rt; found, want, "at {lines:?}");
+    }
+    Ok(())
+}
+
+#[test]
+fn limits(rt: HostRuntime) -> Result<(), Fail> {
+    let alloc = rt.alloc();
+    let deep = repeated(alloc, "SERIES\n", 17)?;
+    assert_eq!(rt; in_rung(alloc, deep.as_str())?, (4, 28));
+    let elements = repeated(alloc, "OSR\n", 4001)?;
+    assert_eq!(rt; in_rung(alloc, elements.as_str())?, (5, 4012));
+    let openings = repeated(alloc, "SERIES\nEND\n", 4001)?;
+    assert_eq!(rt; in_rung(alloc, openings.as_str())?, (5, 8012));
+    let rungs = repeated(alloc, "RUNG\nEND\n", 501)?;
+    let text = joined(alloc, &[TOP, "PROGRAM\n", rungs.as_str()])?;
+    assert_eq!(rt; fault_of(alloc, text.as_str())?, (5, 1008));
+    for (length, want) in [(504, (6, 13)), (505, (3, 12))] {
+        let tail = repeated(alloc, "x", length)?;
+        let comment = joined(alloc, &["COMMENT ", tail.as_str()])?;
+        assert_eq!(rt; in_rung(alloc, comment.as_str())?, want, "at {length}");
+    }
+    Ok(())
+}
+
+/// A latch in the hand of another maker: carriage returns, tabs, repeated lines, pins, and no line feed at the end.
+const LATCH: &str =
+    "LDmicro0.1\r\nMICRO=PIC Interpretable\r\nCYCLE=10\r\nCYCLE=20000\r\nCOMPILED=x.hex\r\n\r\nIO LIST\r\n    Xstart at 2\r\nEND\r\nIO LIST\r\n\tYmotor\tat 6\r\nEND\r\nPROGRAM\r\nRUNG\r\n  PARALLEL\r\n    CONTACTS Xstart 0\r\n    CONTACTS Ymotor 0\r\n  END\r\n  COMMENT runs  on \r\n  COIL Ymotor 0 0 0\r\nEND";
+
+fn read_by_bytes(alloc: Global, text: &[u8]) -> Result<Project, TextError> {
+    let mut reader = Reader::new(alloc);
+    for byte in text {
+        reader.feed(&[*byte])?;
+    }
+    reader.end()
+}
+
+/// The cycle time, the pins, how many nodes the one rung has, and the comment's length.
+fn shape(project: &Project) -> (u32, usize, usize, usize) {
+    let mut comment = 0;
+    let mut nodes = 0;
+    if let [rung] = project.rungs.as_slice() {
+        nodes = rung.nodes.as_slice().len();
+        if let [_, Node::Leaf(leaf), _] = rung.nodes.as_slice() {
+            if let LeafKind::Comment { text } = &leaf.kind {
+                comment = text.len();
+            }
+        }
+    }
+    (project.cycle, project.pins.len(), nodes, comment)
+}
+
+#[test]
+fn pieces_do_not_matter(rt: HostRuntime) -> Result<(), Fail> {
+    let alloc = rt.alloc();
+    let whole = read_project(alloc, LATCH.as_bytes());
+    let by_bytes = read_by_bytes(alloc, LATCH.as_bytes());
+    match (whole, by_bytes) {
+        (Ok(whole), Ok(by_bytes)) => {
+            assert_eq!(rt; shape(&whole), (20_000, 2, 3, 9));
+            assert_eq!(rt; shape(&by_bytes), (20_000, 2, 3, 9));
+        }
+        _ => return Err(Fail::new("refused")),
+    }
+    Ok(())
+}
+
+/// A traffic light: its timer, on line 18, is the first word that is not built.
+const TRAFFIC_LIGHT: &str =
+    "LDmicro0.1\r\nMICRO=Interpretable Byte Code\r\nCYCLE=10000\r\nCRYSTAL=4000000\r\nBAUD=2400\r\nCOMPILED=light.int\r\n\r\nIO LIST\r\n    Xrun at 2\r\n    Yred at 6\r\n    Ygreen at 7\r\nEND\r\n\r\nPROGRAM\r\nRUNG\r\n    CONTACTS Xrun 0\r\n    CONTACTS Rtick 1\r\n    TON Ttick 20000\r\n    COIL Rtick 0 0 0\r\nEND\r\nRUNG\r\n    CONTACTS Rtick 0\r\n    CTC Cstep 2\r\nEND\r\n";
+
+#[test]
+fn the_traffic_light_in_bytes(rt: HostRuntime) -> Result<(), Fail> {
+    assert_eq!(rt; fault_of(rt.alloc(), TRAFFIC_LIGHT)?, (27, 18));
+    match read_by_bytes(rt.alloc(), TRAFFIC_LIGHT.as_bytes()) {
+        Err(TextError::Refused(fault)) => {
+            assert_eq!(rt; fault, ProjectFault::NotBuilt { line: 18 });
+        }
+        _ => return Err(Fail::new("not refused")),
+    }
+    Ok(())
+}
+
+#[test]
+fn an_error_lasts(rt: HostRuntime) -> Result<(), Fail> {
+    let mut reader = Reader::new(rt.alloc());
+    assert!(rt; reader.feed(b"LDmicro0.1\nx").is_ok());
+    for _ in 0..2 {
+        match reader.feed(b"\n") {
+            Err(TextError::Refused(fault)) => {
+                assert_eq!(rt; fault, ProjectFault::BadLine { line: 2 });
+            }
+            _ => return Err(Fail::new("not refused")),
+        }
+    }
+    assert!(rt; reader.end().is_err());
+    Ok(())
+}

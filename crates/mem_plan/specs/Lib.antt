@@ -1,0 +1,4 @@
+pub mod Needs
+pub mod Misfit
+pub mod Places
+pub mod Apart
