@@ -1,5 +1,5 @@
 #!/usr/bin/env bash
-# Times `./ldmicro /c` on projects of 1,000, 2,000 and 4,000 elements, on texts at the limit of 8 MiB and on texts that are refused, and prints time and peak memory.
+# Times `./ldmicro /c` on projects of 1,000, 2,000 and 4,000 elements, on 500 rungs of mixed elements, on texts at the limit of 8 MiB and on texts that are refused, and prints time and peak memory.
 # A benchmark, not a test: it ends with 0 whatever it finds.
 set -u
 top=$(cd "$(dirname "$0")/.." && pwd)
@@ -17,6 +17,18 @@ def project(elements):
         contacts = "".join(f"CONTACTS X{(n + k) % 50} {k % 2}\n" for k in range(7))
         text.append(f"RUNG\n{contacts}COIL R{n} 0 0 0\nEND\n")
     return "".join(text)
+def mixed():
+    """500 rungs: timers, counters, arithmetic, comparisons, tables and shift registers in turn."""
+    kinds = [
+        "CONTACTS Xa 0\nTON T{n} 30000\nCOIL R{n} 0 0 0\n",
+        "CONTACTS Xa 1\nCTU C{n} 30\nCOIL R{n} 0 1 0\n",
+        "CONTACTS Xa 0\nADD v{n} v{n} {n}\n",
+        "GEQ v{n} 100\nPARALLEL\nOSR\nCONTACTS Xb 0\nEND\nCOIL Y{n} 0 0 0\n",
+        "LOOK_UP_TABLE v{n} v0 8 0 1 2 3 4 5 6 7 8\n",
+        "CONTACTS Xb 0\nSHIFT_REGISTER s{n}_ 8\n",
+        "PERSIST v{n}\n",
+    ]
+    return header + "".join("RUNG\n" + kinds[n % len(kinds)].format(n=n) + "END\n" for n in range(500))
 def filled(line, size):
     """The header's first line, and lines up to the size; they may stand above PROGRAM."""
     top = "LDmicro0.1\nMICRO=Interpretable\n"
@@ -38,6 +50,7 @@ def run(name, text):
     return best
 times = [run(f"{n} elements", project(n)) for n in (1000, 2000, 4000)]
 print(f"twice the elements take {times[1] / times[0]:.2f} and {times[2] / times[1]:.2f} times the time")
+run("500 mixed rungs", mixed())
 run("4,000 comments", header + "".join("RUNG\n" + f"COMMENT {'x' * 500}\n" * 8 + "END\n" for _ in range(500)))
 run("8 MiB of header lines", filled("COMPILED=" + "x" * 60 + "\n", 8388608))
 run("8 MiB of blank lines", filled("\n", 8388608))

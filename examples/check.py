@@ -1,50 +1,167 @@
 #!/usr/bin/env python3
-"""Compiles each example and runs what was written over its trace.
+"""Compiles each example, runs what was written over its trace, and compares what it shows.
 
     python3 examples/check.py PROGRAM
 
-The runner below is an independent reading of docs/FORMATS.md. A trace has a line a cycle: the inputs, a colon, and
-what the outputs and relays have to be. The last line printed is 'N passed, M failed'.
+The runner below is an independent reading of docs/FORMATS.md. NAME.trace has the readings, and NAME.shown a line a
+cycle, written by hand. The last line printed is 'N passed, M failed'.
 """
 import pathlib
 import subprocess
 import sys
 import tempfile
 
-
-def read(text):
-    lines = text.split("\n")
-    assert lines[0] == "LDint 1" and lines[-2:] == ["end", ""], "not an interpretable text"
-    names, place = {"input": [], "output": [], "relay": []}, 2
-    while lines[place].split(" ")[0] in names:
-        kind, name = lines[place].split(" ")
-        names[kind].append(name)
-        place += 1
-    bits = int(lines[place].split(" ")[1])
-    assert lines[place + 1] == "code"
-    return names, bits, [line.split(" ") for line in lines[place + 2 : -2]]
+KINDS = ["input", "output", "analog", "var", "relay", "persist"]
+WRITES = {"set", "clr", "cpy", "not"}
 
 
-def cycle(ops, state, inputs):
-    def value(word):
-        return inputs[int(word[1:])] if word[0] == "x" else state[word[0]][int(word[1:])]
+def wrap(n):
+    return (n + 32768) % 65536 - 32768
 
-    def write(word, level):
-        state[word[0]][int(word[1:])] = level
 
-    runs = []  # of each open if: whether its branch runs
-    for op, *words in ops:
-        if op == "fi":
-            runs.pop()
-        elif op == "els":
-            runs[-1] = not runs[-1]
-        elif op in ("ifs", "ifc"):
-            runs.append(value(words[0]) == (op == "ifs"))
-        elif all(runs):
-            level = {"set": lambda: True, "clr": lambda: False}.get(op)
-            if level is None:
-                level = (lambda: value(words[1])) if op == "cpy" else (lambda: not value(words[1]))
-            write(words[0], level())
+def quotient(a, b):
+    return 0 if b == 0 else wrap(abs(a) // abs(b) * (1 if (a < 0) == (b < 0) else -1))
+
+
+class Program:
+    """An interpretable text, and the state that its cycles keep."""
+
+    def __init__(self, text, eeprom):
+        lines = text.split("\n")
+        assert lines[0] == "LDint 1" and lines[-2:] == ["end", ""], "not an interpretable text"
+        self.names, place = {kind: [] for kind in KINDS}, 2
+        self.numbers = []
+        while lines[place].split(" ")[0] in KINDS:
+            kind, name, *start = lines[place].split(" ")
+            self.names[kind].append(name)
+            self.numbers += map(int, start)
+            place += 1
+        assert lines[place].startswith("bits ") and lines[place + 1] == "code"
+        self.bits = {"b": [0] * int(lines[place][5:]), "y": [0] * len(self.names["output"])}
+        self.ops = [line.split(" ") for line in lines[place + 2 : -2]]
+        self.eeprom, self.pending, self.duty = bytearray(eeprom), None, 0
+
+    def bit(self, word):
+        return self.inputs[int(word[1:])] if word[0] == "x" else self.bits[word[0]][int(word[1:])]
+
+    def set_bit(self, word, level):
+        self.bits[word[0]][int(word[1:])] = int(level)
+
+    def number(self, word):
+        return self.numbers[int(word[1:])] if word[0] == "v" else int(word)
+
+    def saved(self, a):
+        return int.from_bytes(self.eeprom[2 * a : 2 * a + 2], "little", signed=True)
+
+    def holds(self, op, words):
+        if op in ("ifs", "ifc"):
+            return bool(self.bit(words[0])) == (op == "ifs")
+        if op == "ifee":
+            return self.number(words[0]) == self.saved(int(words[1]))
+        a, b = map(self.number, words)
+        return a < b if op == "iflt" else a == b
+
+    def computed(self, op, words):
+        values = [self.number(word) for word in words if word[0] in "v-0123456789"]
+        results = {
+            "lit": lambda n: n,
+            "mov": lambda n: n,
+            "add": lambda a, b: wrap(a + b),
+            "sub": lambda a, b: wrap(a - b),
+            "mul": lambda a, b: wrap(a * b),
+            "div": quotient,
+        }
+        if op in results:
+            return results[op](*values)
+        return {"adc": lambda k: self.analog[k], "eerd": self.saved}[op](values[0])
+
+    def check_eeprom(self):
+        if self.writing:
+            return True
+        if self.pending is None:
+            return False
+        address, self.eeprom[address] = self.pending[0], self.pending[1]
+        self.pending, self.writing = None, True
+        return True
+
+    def device(self, op, words):
+        if op == "pwm":
+            self.duty = max(0, min(100, self.number(words[0])))
+        elif op == "rx":
+            taken, self.received = self.received, None
+            if taken is not None:
+                self.numbers[int(words[0][1:])] = taken
+            self.set_bit(words[1], taken is not None)
+        elif op == "tx":
+            if self.bit(words[1]) and not self.sending:
+                self.sent, self.sending = self.number(words[0]) % 256, True
+            self.set_bit(words[2], self.sending)
+        elif op == "eebusy":
+            self.set_bit(words[0], self.check_eeprom())
+        elif op == "eewr":
+            n, a = self.number(words[0]) % 65536, int(words[1])
+            self.eeprom[2 * a], self.pending, self.writing = n % 256, (2 * a + 1, n // 256), True
+        elif op == "tab":
+            values, index = list(map(int, words[3:])), self.number(words[1])
+            assert len(values) == int(words[2])
+            if 0 <= index < len(values):
+                self.numbers[int(words[0][1:])] = values[index]
+
+    def execute(self, op, words):
+        if op in WRITES:
+            level = {"set": lambda: 1, "clr": lambda: 0}.get(op)
+            self.set_bit(words[0], level() if level else bool(self.bit(words[1])) == (op == "cpy"))
+        elif op in ("inc", "dec"):
+            k = int(words[0][1:])
+            self.numbers[k] = wrap(self.numbers[k] + (1 if op == "inc" else -1))
+        elif op in ("lit", "mov", "add", "sub", "mul", "div", "adc", "eerd"):
+            self.numbers[int(words[0][1:])] = self.computed(op, words[1:])
+        else:
+            self.device(op, words)
+
+    def cycle(self, reading):
+        self.inputs = [reading[name] for name in self.names["input"]]
+        self.analog = [reading[name] for name in self.names["analog"]]
+        self.received, self.sending, self.writing = reading.get("rx"), "tx" in reading, "ee" in reading
+        self.sent, runs = None, []  # of each open if: whether its branch runs
+        for op, *words in self.ops:
+            if op == "fi":
+                runs.pop()
+            elif op == "els":
+                runs[-1] = not runs[-1]
+            elif op.startswith("if"):
+                runs.append(all(runs) and self.holds(op, words))
+            elif all(runs):
+                self.execute(op, words)
+
+    def shown(self, number):
+        bits = list(zip(self.names["output"], self.bits["y"])) + list(zip(self.names["relay"], self.bits["b"]))
+        parts = [str(number)] + [f"{name}={value}" for name, value in bits + list(zip(self.names["var"], self.numbers))]
+        if any(op[0] == "pwm" for op in self.ops):
+            parts.append(f"pwm={self.duty}")
+        if self.sent is not None:
+            parts.append(f"sent={self.sent}")
+        if self.names["persist"]:
+            parts.append("ee=" + self.eeprom[: 2 * len(self.names["persist"])].hex())
+        return " ".join(parts)
+
+
+def steps_of(trace, names):
+    """The EEPROM, and the reading of each cycle."""
+    eeprom, readings, kept = bytes([255] * 512), [], {name: 0 for name in names}
+    for line in trace.splitlines():
+        words = line.split()
+        if not line or line[0] == "#":
+            continue
+        if words and words[0] == "eeprom":
+            given = bytes.fromhex(words[1])
+            eeprom = given + bytes([255] * (512 - len(given)))
+            continue
+        times = int(words.pop(0)[:-1]) if words and words[0].endswith(":") else 1
+        given = {key: int(value) for key, value in (word.split("=") for word in words)}
+        kept.update({name: value for name, value in given.items() if name in kept})
+        readings += [kept | {key: given[key] for key in ("rx", "tx", "ee") if key in given}] * times
+    return eeprom, readings
 
 
 def check(program, source):
@@ -53,17 +170,19 @@ def check(program, source):
         done = subprocess.run([program, "/c", str(source), str(dest)], capture_output=True, text=True)
         if done.returncode != 0:
             return f"status {done.returncode}: {done.stdout}"
-        names, bits, ops = read(dest.read_text())
-    if f"operations {len(ops)}\n" not in done.stdout:
+        text = dest.read_text()
+    run = Program(text, bytes(512))
+    eeprom, readings = steps_of(source.with_suffix(".trace").read_text(), run.names["input"] + run.names["analog"])
+    run.eeprom = bytearray(eeprom)
+    if f"operations {len(run.ops)}\n" not in done.stdout:
         return "the report has another number of operations"
-    state = {"b": [False] * bits, "y": [False] * len(names["output"])}
-    for number, line in enumerate(source.with_suffix(".trace").read_text().splitlines(), 1):
-        given, wanted = (dict(w.split("=") for w in part.split()) for part in line.split(":"))
-        cycle(ops, state, [given[name] == "1" for name in names["input"]])
-        shown = dict(zip(names["output"], state["y"])) | dict(zip(names["relay"], state["b"]))
-        for name, level in wanted.items():
-            if shown[name] != (level == "1"):
-                return f"cycle {number}: {name} is not {level}"
+    wanted = source.with_suffix(".shown").read_text().splitlines()
+    if len(wanted) != len(readings):
+        return f"{len(readings)} cycles, and {len(wanted)} lines"
+    for number, (reading, line) in enumerate(zip(readings, wanted), 1):
+        run.cycle(reading)
+        if run.shown(number) != line:
+            return f"shows {run.shown(number)}, and not {line}"
     return None
 
 

@@ -1,32 +1,34 @@
 -- Operations nest exactly where they balance and each if closes.
 use Rattle.std.proofs.Common.{◌≡◌, ℕ, suc, Bool, true, false, not, ◌&&◌, List, [], ◌∷◌, length, refl, ap, ◌∙◌}
 use Rattle.int_code.specs.declared.op.IntOp.{IntOp}
-use Rattle.int_code.specs.declared.op.IntOp.TheVariants.{Set, Clr, Cpy, Not, Ifs, Ifc, Els, Fi}
-use Rattle.int_code.specs.WellFormed.{nests}
-use Rattle.int_code.specs.Closes.{closes, all_close, balances}
+use Rattle.int_code.specs.declared.op.Shape.{Shape}
+use Rattle.int_code.specs.declared.op.Shape.TheVariants.{Opens, Turns, Closes, Plain}
+use Rattle.int_code.specs.Shapes.{shape_of}
+use Rattle.int_code.specs.WellFormed.{nests_by, nests}
+use Rattle.int_code.specs.Closes.{closes_by, closes, closes_behind, all_close, balances_by, balances}
 
--- each open if closes, the first with so many others open inside it
-abbrev opens_close : List IntOp → ℕ → List Bool → Bool
-opens_close ops depth [] = true
-opens_close ops depth (e ∷ es) = closes ops depth e && opens_close ops (suc depth) es
+-- each open if closes by the rest, the first with so many others open inside it
+abbrev open_close : (ℕ → Bool → Bool) → ℕ → List Bool → Bool
+open_close rest depth [] = true
+open_close rest depth (e ∷ es) = rest depth e && open_close rest (suc depth) es
 
 -- what one operation in front does to open ifs
-module _ (op : IntOp) (ops : List IntOp) where
-  past_opening : ((k : ℕ) (e : Bool) → closes (op ∷ ops) k e ≡ closes ops (suc k) e) → (depth : ℕ) (es : List Bool) → opens_close (op ∷ ops) depth es ≡ opens_close ops (suc depth) es
-  past_opening h depth [] = refl
-  past_opening h depth (e ∷ es) = rw (h depth e, past_opening h (suc depth) es) refl
+module _ (rest : ℕ → Bool → Bool) where
+  past_opening : (depth : ℕ) (es : List Bool) → open_close (closes_by Opens rest) depth es ≡ open_close rest (suc depth) es
+  past_opening depth [] = refl
+  past_opening depth (e ∷ es) = rw (past_opening (suc depth) es) refl
 
-  past_closing : ((k : ℕ) (e : Bool) → closes (op ∷ ops) (suc k) e ≡ closes ops k e) → (depth : ℕ) (es : List Bool) → opens_close (op ∷ ops) (suc depth) es ≡ opens_close ops depth es
-  past_closing h depth [] = refl
-  past_closing h depth (e ∷ es) = rw (h depth e, past_closing h (suc depth) es) refl
+  past_turning : (depth : ℕ) (es : List Bool) → open_close (closes_by Turns rest) (suc depth) es ≡ open_close rest (suc depth) es
+  past_turning depth [] = refl
+  past_turning depth (e ∷ es) = rw (past_turning (suc depth) es) refl
 
-  past_outer : ((k : ℕ) (e : Bool) → closes (op ∷ ops) (suc k) e ≡ closes ops (suc k) e) → (depth : ℕ) (es : List Bool) → opens_close (op ∷ ops) (suc depth) es ≡ opens_close ops (suc depth) es
-  past_outer h depth [] = refl
-  past_outer h depth (e ∷ es) = rw (h depth e, past_outer h (suc depth) es) refl
+  past_closing : (depth : ℕ) (es : List Bool) → open_close (closes_by Closes rest) (suc depth) es ≡ open_close rest depth es
+  past_closing depth [] = refl
+  past_closing depth (e ∷ es) = rw (past_closing (suc depth) es) refl
 
-  past_plain : ((k : ℕ) (e : Bool) → closes (op ∷ ops) k e ≡ closes ops k e) → (depth : ℕ) (es : List Bool) → opens_close (op ∷ ops) depth es ≡ opens_close ops depth es
-  past_plain h depth [] = refl
-  past_plain h depth (e ∷ es) = rw (h depth e, past_plain h (suc depth) es) refl
+  past_plain : (depth : ℕ) (es : List Bool) → open_close (closes_by Plain rest) depth es ≡ open_close rest depth es
+  past_plain depth [] = refl
+  past_plain depth (e ∷ es) = rw (past_plain (suc depth) es) refl
 
 inner_first : (a b c d : Bool) → (a && (b && (c && d))) ≡ (a && ((c && b) && d))
 inner_first false b c d = refl
@@ -41,19 +43,25 @@ flag_in false false b c d = refl
 flag_in false true false c d = refl
 flag_in false true true c d = refl
 
-nests_parts : (ops : List IntOp) (es : List Bool) → nests ops es ≡ (balances ops (length es) && (all_close ops && opens_close ops 0 es))
+module _ (ops : List IntOp) where
+  abbrev parts : List Bool → Bool
+  parts es = balances ops (length es) && (all_close ops && open_close (closes ops) 0 es)
+
+  abbrev parts_behind : Shape → List Bool → Bool
+  parts_behind shape es = balances_by shape (balances ops) (length es) && ((closes_behind shape ops && all_close ops) && open_close (closes_by shape (closes ops)) 0 es)
+
+  parts_by : ((es : List Bool) → nests ops es ≡ parts es) → (shape : Shape) (es : List Bool) → nests_by shape (nests ops) es ≡ parts_behind shape es
+  parts_by rest Opens es = rw (past_opening (closes ops) 0 es) (rest (false ∷ es) ∙ inner_first (balances ops (length (false ∷ es))) (all_close ops) (closes ops 0 false) (open_close (closes ops) 1 es))
+  parts_by rest Turns [] = refl
+  parts_by rest Turns (e ∷ es) = rw (past_turning (closes ops) 0 es) (ap (λ x. not e && x) (rest (true ∷ es)) ∙ flag_in (not e) (balances ops (length (true ∷ es))) (all_close ops) (closes ops 0 true) (open_close (closes ops) 1 es))
+  parts_by rest Closes [] = refl
+  parts_by rest Closes (e ∷ es) = rw (past_closing (closes ops) 0 es) (rest es)
+  parts_by rest Plain es = rw (past_plain (closes ops) 0 es) (rest es)
+
+nests_parts : (ops : List IntOp) (es : List Bool) → nests ops es ≡ parts ops es
 nests_parts [] [] = refl
 nests_parts [] (e ∷ es) = refl
-nests_parts (Set b ∷ ops) es = rw (past_plain (Set b) ops (λ k e. refl) 0 es) (nests_parts ops es)
-nests_parts (Clr b ∷ ops) es = rw (past_plain (Clr b) ops (λ k e. refl) 0 es) (nests_parts ops es)
-nests_parts (Cpy b s ∷ ops) es = rw (past_plain (Cpy b s) ops (λ k e. refl) 0 es) (nests_parts ops es)
-nests_parts (Not b s ∷ ops) es = rw (past_plain (Not b s) ops (λ k e. refl) 0 es) (nests_parts ops es)
-nests_parts (Ifs s ∷ ops) es = rw (past_opening (Ifs s) ops (λ k e. refl) 0 es) (nests_parts ops (false ∷ es) ∙ inner_first (balances ops (length (false ∷ es))) (all_close ops) (closes ops 0 false) (opens_close ops 1 es))
-nests_parts (Ifc s ∷ ops) es = rw (past_opening (Ifc s) ops (λ k e. refl) 0 es) (nests_parts ops (false ∷ es) ∙ inner_first (balances ops (length (false ∷ es))) (all_close ops) (closes ops 0 false) (opens_close ops 1 es))
-nests_parts (Els ∷ ops) [] = refl
-nests_parts (Els ∷ ops) (e ∷ es) = rw (past_outer Els ops (λ k e. refl) 0 es) (ap (λ x. not e && x) (nests_parts ops (true ∷ es)) ∙ flag_in (not e) (balances ops (length (true ∷ es))) (all_close ops) (closes ops 0 true) (opens_close ops 1 es))
-nests_parts (Fi ∷ ops) [] = refl
-nests_parts (Fi ∷ ops) (e ∷ es) = rw (past_closing Fi ops (λ k e. refl) 0 es) (nests_parts ops es)
+nests_parts (op ∷ ops) es = parts_by ops (nests_parts ops) (shape_of op) es
 
 and_true : (a b : Bool) → (a && (b && true)) ≡ (a && b)
 and_true false b = refl

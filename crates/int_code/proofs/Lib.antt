@@ -1,5 +1,10 @@
+pub mod AsleepLemmas
+pub mod RangeLemmas
+pub mod ByteLemmas
+pub mod QuotientLemmas
+pub mod TextLemmas
 pub mod SkipLemmas
 pub mod NestLemmas
 pub mod CountLemmas
+pub mod SendLemmas
 pub mod CloseLemmas
-pub mod BitsLemmas

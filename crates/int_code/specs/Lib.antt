@@ -1,3 +1,7 @@
+pub mod Shapes
+pub mod Groups
+pub mod Store
+pub mod Device
 pub mod Meaning
 pub mod WellFormed
 pub mod Caps
@@ -5,3 +9,5 @@ pub mod Text
 pub mod Held
 pub mod Stands
 pub mod Closes
+pub mod Uses
+pub mod Literals

@@ -2,7 +2,11 @@
 #![tactic(auto)]
 
 pub mod cycle;
+mod device;
 pub mod laws;
 pub mod op;
+pub mod state;
+mod test;
 pub mod text;
 pub mod well_formed;
+mod write;

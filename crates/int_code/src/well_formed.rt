@@ -1,11 +1,13 @@
 //! The test that a program is well formed.
 
-ghost use Rattle.std.specs.Prelude.{◌≡◌, ◌↔◌, ◌^◌, ◌<◌, [], length, IsTrue, false};
-ghost use Rattle.int_code.specs.WellFormed.{nests, IsDest, IsSource, IsInRange, IsWellFormed, sizes_of};
-ghost use Rattle.int_code.specs.WellFormed as spec;
+ghost use Rattle.std.specs.Prelude.{◌≡◌, ◌↔◌, ◌<◌, [], IsTrue, false};
+ghost use Rattle.int_code.specs.WellFormed.{nests, IsDest, IsSource, IsNumSource, IsComputed, IsInRange, IsWellFormed, sizes_of};
 ghost use Rattle.int_code.specs.Closes as closing;
 
-use crate::op::{BitDest, BitSource, IntOp, IntProgram};
+use crate::op::{BitDest, BitSource, IntOp, IntProgram, NumSource, Shape};
+
+/// How many values a table may have.
+const MOST_VALUES: usize = 60;
 
 /// Whether the operations behind an if's test come to its `Fi`, with at most one `Els` of its own before.
 fn closes(ops: &[IntOp]) -> bool
@@ -14,32 +16,32 @@ fn closes(ops: &[IntOp]) -> bool
     let mut depth: usize = 0;
     let mut had_els = false;
     for op in ops {
-        match op {
-            IntOp::Ifs { .. } | IntOp::Ifc { .. } => depth += 1,
-            IntOp::Els if depth == 0 => {
+        match op.shape() {
+            Shape::Opens => depth += 1,
+            Shape::Turns if depth == 0 => {
                 if had_els {
                     return false;
                 }
                 had_els = true;
             }
-            IntOp::Fi => {
+            Shape::Closes => {
                 if depth == 0 {
                     return true;
                 }
                 depth -= 1;
             }
-            _ => {}
+            Shape::Turns | Shape::Plain => {}
         }
     }
     false
 }
 
-/// Whether each if closes. Each `Ifs` and `Ifc` is followed to its `Fi`.
+/// Whether each if closes. Each operation that opens one is followed to its `Fi`.
 fn all_close(ops: &[IntOp]) -> bool
     ensures { result ≡ closing.all_close ops.now }
 {
     for k in 0..ops.len() {
-        if let IntOp::Ifs { .. } | IntOp::Ifc { .. } = ops[k] {
+        if ops[k].shape() == Shape::Opens {
             if !closes(&ops[k + 1..]) {
                 return false;
             }
@@ -54,11 +56,11 @@ fn balances(ops: &[IntOp]) -> bool
 {
     let mut depth: usize = 0;
     for op in ops {
-        match op {
-            IntOp::Ifs { .. } | IntOp::Ifc { .. } => depth += 1,
-            IntOp::Els | IntOp::Fi if depth == 0 => return false,
-            IntOp::Fi => depth -= 1,
-            _ => {}
+        match op.shape() {
+            Shape::Opens => depth += 1,
+            Shape::Turns | Shape::Closes if depth == 0 => return false,
+            Shape::Closes => depth -= 1,
+            Shape::Turns | Shape::Plain => {}
         }
     }
     depth == 0
@@ -91,14 +93,45 @@ fn is_source(p: &IntProgram, s: BitSource) -> bool
     }
 }
 
+fn is_number(p: &IntProgram, w: NumSource) -> bool
+    ensures { IsTrue result ↔ IsNumSource (sizes_of p.now) w }
+{
+    match w {
+        NumSource::V(k) => k < p.variables,
+        NumSource::N(_) => true,
+    }
+}
+
+/// Whether a variable and the two numbers that it becomes the result of are in range.
+fn is_computed(p: &IntProgram, v: u32, w: NumSource, u: NumSource) -> bool
+    ensures { IsTrue result ↔ IsComputed (sizes_of p.now) v w u }
+{
+    v < p.variables && is_number(p, w) && is_number(p, u)
+}
+
+/// Whether each number of an operation is below the program's size for it.
 fn is_in_range(p: &IntProgram, op: &IntOp) -> bool
     ensures { IsTrue result ↔ IsInRange (sizes_of p.now) op.now }
 {
     match op {
-        IntOp::Set { b } | IntOp::Clr { b } => is_dest(p, *b),
+        IntOp::Els | IntOp::Fi => true,
+        IntOp::Set { b } | IntOp::Clr { b } | IntOp::Eebusy { b } => is_dest(p, *b),
         IntOp::Cpy { b, s } | IntOp::Not { b, s } => is_dest(p, *b) && is_source(p, *s),
         IntOp::Ifs { s } | IntOp::Ifc { s } => is_source(p, *s),
-        IntOp::Els | IntOp::Fi => true,
+        IntOp::Rx { v, b } => *v < p.variables && is_dest(p, *b),
+        IntOp::Tx { w, s, b } => is_number(p, *w) && is_source(p, *s) && is_dest(p, *b),
+        IntOp::Lit { v, .. } | IntOp::Inc { v } | IntOp::Dec { v } => *v < p.variables,
+        IntOp::Mov { v, from } => *v < p.variables && *from < p.variables,
+        IntOp::Add { v, w, u } | IntOp::Sub { v, w, u } => is_computed(p, *v, *w, *u),
+        IntOp::Mul { v, w, u } | IntOp::Div { v, w, u } => is_computed(p, *v, *w, *u),
+        IntOp::Iflt { w, u } | IntOp::Ifeq { w, u } => is_number(p, *w) && is_number(p, *u),
+        IntOp::Adc { v, k } => *v < p.variables && *k < p.analogs,
+        IntOp::Pwm { w, .. } => is_number(p, *w),
+        IntOp::Ifee { v, a } | IntOp::Eerd { v, a } => *v < p.variables && *a < p.persistent,
+        IntOp::Eewr { w, a } => is_number(p, *w) && *a < p.persistent,
+        IntOp::Tab { v, w, values } => {
+            *v < p.variables && is_number(p, *w) && values.len() <= MOST_VALUES
+        }
     }
 }
 
@@ -117,48 +150,127 @@ pub fn well_formed(p: &IntProgram) -> bool
 #[cfg(test)]
 mod tests {
     use super::*;
+    use crate::op::Ops;
     use ld_base::list::List;
     use std::alloc::{AllocError, Global};
     use std::test::Fail;
 
-    /// Whether these operations are well formed over one bit, one input and one output.
-    fn accepts(alloc: Global, ops: &[IntOp]) -> Result<bool, AllocError> {
-        let p = IntProgram {
-            ops: List::from_vec(ops.to_vec(alloc)?),
+    /// A program of these operations over three bits, two outputs and variables, and one of all else.
+    fn program(alloc: Global, ops: Ops) -> Result<IntProgram, AllocError> {
+        Ok(IntProgram {
+            ops,
             inputs: 1,
-            outputs: 1,
-            analogs: 0,
-            variables: 0,
-            kept_bits: 1,
-            bits: 1,
-            persistent: 0,
-            starts: List::new(alloc),
-        };
-        Ok(well_formed(&p))
+            outputs: 2,
+            analogs: 1,
+            variables: 2,
+            kept_bits: 3,
+            bits: 3,
+            persistent: 1,
+            starts: List::from_vec(vec![in alloc; 0; 2]?),
+        })
+    }
+
+    /// An if for each `i`, an `Els` for each `e`, a `Fi` for each `f`, and a plain operation for any other letter.
+    fn spelled(alloc: Global, letters: &[u8]) -> Result<Ops, AllocError> {
+        let mut ops = List::new(alloc);
+        for letter in letters {
+            ops.push(match letter {
+                b'i' => IntOp::Ifs { s: BitSource::X(0) },
+                b'e' => IntOp::Els,
+                b'f' => IntOp::Fi,
+                _ => IntOp::Inc { v: 0 },
+            })?;
+        }
+        Ok(ops)
     }
 
     #[test]
-    fn tells_well_formed_operations(rt: HostRuntime) -> Result<(), Fail> {
-        let ifs = IntOp::Ifs { s: BitSource::X(0) };
-        let ifc = IntOp::Ifc { s: BitSource::B(0) };
-        let set = IntOp::Set { b: BitDest::Y(0) };
-        let past = IntOp::Set { b: BitDest::Y(1) };
-        let els = IntOp::Els;
-        let fi = IntOp::Fi;
-        let rows: [(&[IntOp], bool); 9] = [
-            (&[], true),
-            (&[ifs, set, els, set, fi], true),
-            (&[ifs, ifc, els, fi, els, ifs, fi, fi], true),
-            (&[ifs, els, set, els, fi], false),
-            (&[els], false),
-            (&[set, fi], false),
-            (&[ifs, ifc, fi], false),
-            (&[ifs, fi, fi, ifs], false),
-            (&[past], false),
+    fn tells_where_ifs_nest(rt: HostRuntime) -> Result<(), Fail> {
+        let rows = [
+            ("", true),
+            ("ipepf", true),
+            ("iiefeiff", true),
+            ("iepef", false),
+            ("e", false),
+            ("pf", false),
+            ("iif", false),
+            ("iffi", false),
         ];
-        for (ops, want) in rows {
-            assert_eq!(rt; accepts(rt.alloc(), ops)?, want, "at {ops:?}");
+        for (letters, want) in rows {
+            let p = program(rt.alloc(), spelled(rt.alloc(), letters.as_bytes())?)?;
+            assert_eq!(rt; well_formed(&p), want, "at {letters}");
         }
+        Ok(())
+    }
+
+    /// Whether this operation alone is well formed.
+    fn accepts(alloc: Global, op: IntOp) -> Result<bool, AllocError> {
+        let ops = List::from_vec(vec![in alloc; op]?);
+        Ok(well_formed(&program(alloc, ops)?))
+    }
+
+    #[test]
+    fn tells_numbers_past_their_sizes(rt: HostRuntime) -> Result<(), Fail> {
+        let (b, w) = (BitDest::B(2), NumSource::V(1));
+        let rows = [
+            (IntOp::Set { b }, true),
+            (IntOp::Set { b: BitDest::B(3) }, false),
+            (IntOp::Clr { b: BitDest::Y(2) }, false),
+            (
+                IntOp::Not {
+                    b,
+                    s: BitSource::X(0),
+                },
+                true,
+            ),
+            (
+                IntOp::Not {
+                    b,
+                    s: BitSource::X(1),
+                },
+                false,
+            ),
+            (IntOp::Lit { v: 2, n: 0 }, false),
+            (
+                IntOp::Add {
+                    v: 0,
+                    w,
+                    u: NumSource::V(2),
+                },
+                false,
+            ),
+            (IntOp::Adc { v: 1, k: 0 }, true),
+            (IntOp::Adc { v: 1, k: 1 }, false),
+            (IntOp::Eewr { w, a: 0 }, true),
+            (IntOp::Eewr { w, a: 1 }, false),
+        ];
+        for (op, want) in rows {
+            let text = format!(in rt.alloc(); "{op}")?;
+            assert_eq!(rt; accepts(rt.alloc(), op)?, want, "at {text}");
+        }
+        Ok(())
+    }
+
+    #[test]
+    fn tells_how_long_a_table_may_be(rt: HostRuntime) -> Result<(), Fail> {
+        for (count, want) in [(60, true), (61, false)] {
+            let values = List::from_vec(vec![in rt.alloc(); -5; count]?);
+            let w = NumSource::N(2);
+            let tab = IntOp::Tab { v: 1, w, values };
+            assert_eq!(rt; accepts(rt.alloc(), tab)?, want, "at {count}");
+        }
+        Ok(())
+    }
+
+    #[test]
+    fn tells_that_each_variable_starts(rt: HostRuntime) -> Result<(), Fail> {
+        let mut p = program(rt.alloc(), List::new(rt.alloc()))?;
+        assert!(rt; well_formed(&p));
+        p.kept_bits = 4;
+        assert!(rt; !well_formed(&p));
+        p.kept_bits = 3;
+        p.variables = 3;
+        assert!(rt; !well_formed(&p));
         Ok(())
     }
 }

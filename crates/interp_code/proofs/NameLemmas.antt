@@ -7,7 +7,7 @@ use Rattle.interp_code.specs.Draft.{Takes, with_name}
 abbrev texts : List (Bor (List ℕ)) → List (List ℕ)
 texts ks = map (λ k. k.now) ks
 
-among : (x : List ℕ) (ks : List (Bor (List ℕ))) → list_any (bytes_eq x) (texts ks) ≡ list_any (λ k. bytes_eq x k.now) ks
+pub among : (x : List ℕ) (ks : List (Bor (List ℕ))) → list_any (bytes_eq x) (texts ks) ≡ list_any (λ k. bytes_eq x k.now) ks
 among x [] = refl
 among x (k ∷ ks) = ap (λ b. bytes_eq x k.now || b) (among x ks)
 

@@ -1,5 +1,5 @@
 -- What the reading of lines says of a text.
-use Rattle.std.proofs.Common.{◌≡◌, ◌⊎◌, ℕ, ◌+◌, ◌-◌, ◌<◌, ◌≤◌, Bool, true, false, if◌then◌else◌, nat_le, nat_lt, ◌==◌, List, [], ◌∷◌, ◌++◌, length, map, take, drop, Option, Some, None, refl, sym, ap, ◌∙◌, subst, inl, inr, append_assoc, arith, length-append}
+use Rattle.std.proofs.Common.{◌≡◌, ◌⊎◌, ℕ, ◌+◌, ◌-◌, ◌<◌, ◌≤◌, Bool, true, false, if◌then◌else◌, nat_le, nat_lt, ◌==◌, List, [], ◌∷◌, ◌++◌, length, map, take, drop, Option, Some, None, ℤ, refl, sym, ap, ◌∙◌, subst, inl, inr, append_assoc, arith, length-append}
 use Rattle.std.proofs.lemmas.List.{map-append, append-nil, take-append-drop, length-map, take_all, length-take}
 use Rattle.std.proofs.Math.Seq.{take-append_seam}
 use Rattle.std.proofs.lemmas.Bool.Decides.{nat_tests}
@@ -13,16 +13,21 @@ use Rattle.interp_code.specs.declared.reader.Stage.TheVariants as stage
 use Rattle.int_code.specs.declared.op.IntOp.{IntOp}
 use Rattle.int_code.specs.declared.op.IntOp.TheVariants.{Fi}
 use Rattle.int_code.specs.WellFormed.{nests}
-use Rattle.interp_code.specs.Line.{Line, Magic, Cycle, Input, Output, Relay, BitCount, Code, Operation, End, line_of}
-use Rattle.interp_code.specs.Text.{line_text}
-use Rattle.interp_code.specs.Program.{Says, IsProgram, most_operations, most_bits}
+use Rattle.interp_code.specs.Line.{Line, Magic, Cycle, Input, Output, Analog, Relay, Persistent, BitCount, Code, Operation, End, line_of}
+use Rattle.interp_code.specs.Text.{variables, line_text}
+use Rattle.interp_code.specs.Program.{are_in, Says, IsProgram, most_operations, most_bits}
+use Rattle.ladder_tree.specs.declared.names.Names.{Names}
+use Rattle.ladder_tree.specs.Names.{is_name_within}
 use Rattle.interp_code.specs.Refused.{operations_of, operations_in, IsBegun, IsRefusedAt, most_bytes, judged}
 use Rattle.interp_code.specs.Draft.{Draft, Takes, is_ended, start, step, step_line, read}
-use Rattle.interp_code.specs.Held.{program_of}
+use Rattle.interp_code.specs.Held.{name_count, program_of}
 use Rattle.interp_code.specs.Outcome.{IsStopped}
 use Rattle.interp_code.proofs.ReadsBack.{magic_reads, cycle_reads, bits_reads, code_reads, fi_reads, end_reads}
-use Rattle.interp_code.proofs.WholeText.{AllRead, AllRead-append}
-use Rattle.interp_code.proofs.Reading.{run, read_said, read-append, says_ends, dead, written, written_at, Good, GoodAt, good_start, Grown, Grows, grow, coded}
+use Rattle.interp_code.proofs.WholeText.{AllRead, AllRead-append, variables_read}
+use Rattle.interp_code.proofs.SaidLines.{in_form}
+use Rattle.interp_code.proofs.MissingLemmas.{missing, zeros, zeros_count, zeros_short, missing_differ, missing_pass, missing_complete}
+use Rattle.interp_code.proofs.Reading.{run, read_said, read-append, run_variables, says_ends, dead, coded}
+use Rattle.interp_code.proofs.Growing.{written, written_at, Good, GoodAt, GoodNames, good_start, Grown, Grows, grow}
 
 pub took : {A : Type 0} (o : Option A) (b : Bool) (a : A) → Takes o b a → b ≡ true → o ≡ Some a
 took o true a h is = h
@@ -100,7 +105,7 @@ grows_by (l ∷ ls) d g = by_line (line_of l) refl (λ f h. grows_by ls f h)
 
     by_line : (o : Option Line) → line_of l ≡ o → ((f : Draft) → Good f → GrowsBy f ls (read f ls)) → GrowsBy d (l ∷ ls) (option_and_then (λ f. read f ls) (option_and_then (step d) o))
     by_line None said more = tt
-    by_line (Some x) said more = by_step x said (step d x) (grow d.stage d x g) more
+    by_line (Some x) said more = by_step x said (step d x) (grow d.stage d x (in_form l x said) g) more
 
 pub grown_by : (ls : List (List ℕ)) (d e : Draft) → Good d → read d ls ≡ Some e → GrownBy d ls e
 grown_by ls d e g h = let P : Option Draft → Type 0 = GrowsBy d ls in subst P h (grows_by ls d g)
@@ -114,7 +119,8 @@ fis (e ∷ es) = Operation Fi ∷ fis es
 abbrev ending_at : Stage → Draft → List Line
 ending_at stage.Start d = Magic ∷ (Cycle 0 ∷ (BitCount 0 ∷ (Code ∷ (End ∷ []))))
 ending_at stage.Headed d = Cycle 0 ∷ (BitCount 0 ∷ (Code ∷ (End ∷ [])))
-ending_at stage.Named d = BitCount (length d.relays) ∷ (Code ∷ (End ∷ []))
+ending_at stage.Named d = variables (missing d.names.variables d.names.analog) (zeros (missing d.names.variables d.names.analog)) ++ (BitCount (length d.names.relays) ∷ (Code ∷ (End ∷ [])))
+ending_at stage.Kept d = BitCount (length d.names.relays) ∷ (Code ∷ (End ∷ []))
 ending_at stage.Sized d = Code ∷ (End ∷ [])
 ending_at stage.Coded d = fis d.ifs ++ End ∷ []
 ending_at stage.Ended d = []
@@ -124,37 +130,60 @@ unfolding fis
 fis_read [] = tt
 fis_read (e ∷ es) = (fi_reads, fis_read es)
 
-ending_reads : (s : Stage) (d : Draft) → length d.relays ≤ most_bits → AllRead (ending_at s d)
-ending_reads stage.Start d few = (magic_reads, (cycle_reads 0 (omega arith), (bits_reads 0 (omega arith), (code_reads, (end_reads, tt)))))
-ending_reads stage.Headed d few = (cycle_reads 0 (omega arith), (bits_reads 0 (omega arith), (code_reads, (end_reads, tt))))
-ending_reads stage.Named d few = (bits_reads (length d.relays) (omega arith), (code_reads, (end_reads, tt)))
-ending_reads stage.Sized d few = (code_reads, (end_reads, tt))
-ending_reads stage.Coded d few = AllRead-append (fis d.ifs) (End ∷ []) (fis_read d.ifs) (end_reads, tt)
-ending_reads stage.Ended d few = tt
+sized_reads : (ns : List (List ℕ)) → length ns ≤ most_bits → AllRead (BitCount (length ns) ∷ (Code ∷ (End ∷ [])))
+sized_reads ns few = (bits_reads (length ns) (omega arith), (code_reads, (end_reads, tt)))
+
+ending_reads : (s : Stage) (d : Draft) → GoodNames d.names d.starts → AllRead (ending_at s d)
+ending_reads stage.Start d g = (magic_reads, (cycle_reads 0 (omega arith), (bits_reads 0 (omega arith), (code_reads, (end_reads, tt)))))
+ending_reads stage.Headed d g = (cycle_reads 0 (omega arith), (bits_reads 0 (omega arith), (code_reads, (end_reads, tt))))
+ending_reads stage.Named d g =
+    let more = missing d.names.variables d.names.analog in
+    AllRead-append (variables more (zeros more)) (BitCount (length d.names.relays) ∷ (Code ∷ (End ∷ [])))
+    (variables_read more (zeros more) (missing_pass (is_name_within 66) d.names.variables d.names.analog g.analog_names) (zeros_short more))
+    (sized_reads d.names.relays g.few_relays)
+ending_reads stage.Kept d g = sized_reads d.names.relays g.few_relays
+ending_reads stage.Sized d g = (code_reads, (end_reads, tt))
+ending_reads stage.Coded d g = AllRead-append (fis d.ifs) (End ∷ []) (fis_read d.ifs) (end_reads, tt)
+ending_reads stage.Ended d g = tt
 
 abbrev Ends : Option Draft → Type 0
 Ends o = (e : Draft) × (o ≡ Some e) × (e.stage ≡ stage.Ended)
 
-at_coded : (c : ℕ) (is os rs : List (List ℕ)) (n : ℕ) (ops : List IntOp) (es : List Bool) → Ends (run (coded c is os rs n ops es) (fis es ++ End ∷ []))
+at_coded : (c : ℕ) (ns : Names) (starts : List ℤ) (n : ℕ) (ops : List IntOp) (es : List Bool) → Ends (run (coded c ns starts n ops es) (fis es ++ End ∷ []))
 unfolding fis
-at_coded c is os rs n ops [] = (_, refl, refl)
-at_coded c is os rs n ops (e ∷ es) = at_coded c is os rs n (ops ++ Fi ∷ []) es
+at_coded c ns starts n ops [] = (_, refl, refl)
+at_coded c ns starts n ops (e ∷ es) = at_coded c ns starts n (ops ++ Fi ∷ []) es
 
 at_start_of_ops : (d : Draft) → d.ifs ≡ [] → Ends (run (record d { stage = stage.Sized }) (Code ∷ (End ∷ [])))
 at_start_of_ops d h = rw h (_, refl, refl)
 
-ending_ends : (s : Stage) (d : Draft) → Good (record d { stage = s }) → Ends (run (record d { stage = s }) (ending_at s d))
-ending_ends stage.Start d g = rw (g.at.2, g.at.4) (_, refl, refl)
-ending_ends stage.Headed d g = rw (g.at.2, g.at.4) (_, refl, refl)
-ending_ends stage.Named d g = rw (enough, fits, g.at.1) (_, refl, refl)
+-- the number of bits ends the names, be it behind variables or behind names that are kept
+at_bits : (d : Draft) → length d.names.relays ≤ most_bits → d.ifs ≡ [] → Ends (run (record d { stage = stage.Kept }) (BitCount (length d.names.relays) ∷ (Code ∷ (End ∷ []))))
+at_bits d few h = rw (enough, fits, h) (_, refl, refl)
   where
-    enough : nat_le (length d.relays) (length d.relays) ≡ true
+    enough : nat_le (length d.names.relays) (length d.names.relays) ≡ true
     enough = grind (arith, nat_tests)
 
-    fits : nat_le (length d.relays) most_bits ≡ true
-    fits = let few = g.few in grind (arith, nat_tests)
-ending_ends stage.Sized d g = at_start_of_ops d g.at.1
-ending_ends stage.Coded d g = at_coded d.cycle d.inputs d.outputs d.relays d.bits d.ops d.ifs
+    fits : nat_le (length d.names.relays) most_bits ≡ true
+    fits = grind (arith, nat_tests)
+
+at_bits_named : (d : Draft) → are_in d.names.variables d.names.analog ≡ true → length d.names.relays ≤ most_bits → d.ifs ≡ [] → Ends (run (record d { stage = stage.Named }) (BitCount (length d.names.relays) ∷ (Code ∷ (End ∷ []))))
+at_bits_named d all few h = rw all (at_bits d few h)
+
+at_named : (d : Draft) → length d.names.relays ≤ most_bits → d.ifs ≡ [] → Ends (run (record d { stage = stage.Named }) (ending_at stage.Named d))
+at_named d few h =
+    let more = missing d.names.variables d.names.analog in
+    let vs = d.names.variables ++ more in
+    let through = run_variables d d.names.variables more d.starts (zeros more) (BitCount (length d.names.relays) ∷ (Code ∷ (End ∷ []))) (zeros_count more) (missing_differ d.names.variables d.names.analog) in
+    rw through (at_bits_named (record d { names = record d.names { variables = vs }; starts = d.starts ++ zeros more }) (missing_complete d.names.variables d.names.analog) few h)
+
+ending_ends : (s : Stage) (d : Draft) → Good (record d { stage = s }) → Ends (run (record d { stage = s }) (ending_at s d))
+ending_ends stage.Start d g = rw (g.at.variables, g.at.analogs, g.at.relays, g.at.ifs) (_, refl, refl)
+ending_ends stage.Headed d g = rw (g.at.variables, g.at.analogs, g.at.relays, g.at.ifs) (_, refl, refl)
+ending_ends stage.Named d g = at_named d g.names.few_relays g.at.3
+ending_ends stage.Kept d g = at_bits d g.names.few_relays g.at.2
+ending_ends stage.Sized d g = at_start_of_ops d g.at.2
+ending_ends stage.Coded d g = at_coded d.cycle d.names d.starts d.bits d.ops d.ifs
 ending_ends stage.Ended d g = (_, refl, refl)
 
 texts_say : (xs : List Line) → AllRead xs → map line_of (map line_text xs) ≡ map Some xs
@@ -166,14 +195,23 @@ says_whole : (ls : List (List ℕ)) (e : Draft) → GrownBy start ls e → e.sta
 says_whole ls e g ended = record {
   spelled = sym g.more ∙ ap (λ s. map Some (written_at s e)) ended;
   sound = record {
-    inputs = g.good.inputs_differ;
-    outputs = g.good.outputs_differ;
-    relays = g.good.relays_differ;
+    inputs = g.good.names.inputs;
+    outputs = g.good.names.outputs;
+    analogs = g.good.names.analogs;
+    variables = g.good.names.variables;
+    relays = g.good.names.relays;
+    persistent = g.good.names.persistent;
+    analog_variables = at.0.analog_variables;
+    persistent_variables = g.good.names.persistent_variables;
     input_count = refl;
     output_count = refl;
-    bit_count = at.0;
-    few_bits = at.1;
-    well_formed = record { nests = nesting; range = g.good.range; kept = omega arith; starts = refl };
+    analog_count = refl;
+    variable_count = refl;
+    persistent_count = refl;
+    few_persistent = g.good.names.few_persistent;
+    bit_count = at.0.enough;
+    few_bits = at.0.few;
+    well_formed = record { nests = nesting; range = g.good.operations.range; kept = omega arith; starts = g.good.names.starts };
   };
   whole = refl;
 }
@@ -182,12 +220,12 @@ says_whole ls e g ended = record {
     at = let P : Stage → Type 0 = λ s. GoodAt s e in subst P ended g.good.at
 
     nesting : nests e.ops [] ≡ true
-    nesting = ap (λ ops. nests ops []) (sym (append-nil e.ops)) ∙ g.good.open_ifs [] ∙ ap (nests []) at.2
+    nesting = ap (λ ops. nests ops []) (sym (append-nil e.ops)) ∙ g.good.operations.open_ifs [] ∙ ap (nests []) at.1
 
 goes_on : (ls : List (List ℕ)) (d : Draft) → read start ls ≡ Some d → GrownBy start ls d → Begins (λ xs. (p : InterpProgram) × Says xs p) ls
 goes_on ls d h g =
     let ends = ending_ends d.stage d g.good in
-    let reads = ending_reads d.stage d g.good.few in
+    let reads = ending_reads d.stage d g.good.names in
     let more = map line_text (ending_at d.stage d) in
     let whole : read start (ls ++ more) ≡ Some ends.0 =
     read-append start ls more ∙ ap (option_and_then (λ e. read e more)) h
@@ -268,24 +306,50 @@ whole_read ls d h few end_read = record {
   few = few;
 }
 
-lengths : (d : Draft) → length (written_at stage.Ended d) ≡ 5 + (length d.inputs + (length d.outputs + (length d.relays + length d.ops)))
-lengths d =
-    let a = length-append (map Input d.inputs) (map Output d.outputs ++ (map Relay d.relays ++ (BitCount d.bits ∷ (Code ∷ (map Operation d.ops ++ End ∷ []))))) in
-    let b = length-append (map Output d.outputs) (map Relay d.relays ++ (BitCount d.bits ∷ (Code ∷ (map Operation d.ops ++ End ∷ [])))) in
-    let c = length-append (map Relay d.relays) (BitCount d.bits ∷ (Code ∷ (map Operation d.ops ++ End ∷ []))) in
-    let e = length-append (map Operation d.ops) (End ∷ []) in
-    let f = length-map d.inputs Input in
-    let g = length-map d.outputs Output in
-    let h = length-map d.relays Relay in
-    let i = length-map d.ops Operation in
+length-variables : (ns : List (List ℕ)) (values : List ℤ) → length values ≡ length ns → length (variables ns values) ≡ length ns
+length-variables [] values h = refl
+length-variables (n ∷ ns) [] h = absurd (omega arith)
+length-variables (n ∷ ns) (v ∷ vs) h = let rest = length-variables ns vs (omega arith) in omega arith
+
+mapped : {A : Type 0} (f : A → Line) (xs : List A) (rest : List Line) → length (map f xs ++ rest) ≡ length xs + length rest
+mapped f xs rest = length-append (map f xs) rest ∙ ap (λ k. k + length rest) (length-map xs f)
+
+lengths : (d : Draft) → length d.starts ≡ length d.names.variables → length (written_at stage.Ended d) ≡ 5 + (name_count d.names + length d.ops)
+lengths d same =
+    let a = mapped Input d.names.inputs outputs in
+    let b = mapped Output d.names.outputs analogs in
+    let c = mapped Analog d.names.analog vars in
+    let e = length-append (variables d.names.variables d.starts) relays in
+    let f = length-variables d.names.variables d.starts same in
+    let g = mapped Relay d.names.relays persistent in
+    let h = mapped Persistent d.names.persistent bits in
+    let i = mapped Operation d.ops (End ∷ []) in
     omega arith
+  where
+    bits : List Line
+    bits = BitCount d.bits ∷ (Code ∷ (map Operation d.ops ++ End ∷ []))
+
+    persistent : List Line
+    persistent = map Persistent d.names.persistent ++ bits
+
+    relays : List Line
+    relays = map Relay d.names.relays ++ persistent
+
+    vars : List Line
+    vars = variables d.names.variables d.starts ++ relays
+
+    analogs : List Line
+    analogs = map Analog d.names.analog ++ vars
+
+    outputs : List Line
+    outputs = map Output d.names.outputs ++ analogs
 
 -- how many lines a text has
-pub whole_length : (ls : List (List ℕ)) (d : Draft) → read start ls ≡ Some d → is_ended d.stage ≡ true → length ls ≡ 5 + (length d.inputs + (length d.outputs + (length d.relays + length d.ops)))
+pub whole_length : (ls : List (List ℕ)) (d : Draft) → read start ls ≡ Some d → is_ended d.stage ≡ true → length ls ≡ 5 + (name_count d.names + length d.ops)
 whole_length ls d h end_read =
     let g = grown_by ls start d good_start h in
     let same : map line_of ls ≡ map Some (written_at stage.Ended d) = sym g.more ∙ ap (λ s. map Some (written_at s d)) (stage_ended d.stage end_read) in
-    sym (length-map ls line_of) ∙ ap length same ∙ length-map (written_at stage.Ended d) Some ∙ lengths d
+    sym (length-map ls line_of) ∙ ap length same ∙ length-map (written_at stage.Ended d) Some ∙ lengths d g.good.names.starts
 
 -- The text as it is judged.
 

@@ -2,6 +2,8 @@ pub mod Line
 pub mod Text
 pub mod Program
 pub mod Refused
+pub mod Ranges
+pub mod Written
 pub mod Said
 pub mod Draft
 pub mod Held

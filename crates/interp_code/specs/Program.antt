@@ -23,13 +23,31 @@ all_differ names = differ_from [] names
 abbrev pub most_bits : ℕ
 most_bits = 100000
 
+-- each of the names is in the list
+abbrev pub are_in : List (List ℕ) → List (List ℕ) → Bool
+are_in list names = list_all (λ n. list_any (bytes_eq n) list) names
+
+-- how many persistent variables a program may have
+abbrev pub most_persistent : ℕ
+most_persistent = 256
+
 -- names and a program that go together
 pub record IsSound (names : Names) (program : IntProgram) : Type 0 where
   pub inputs : all_differ names.inputs ≡ true
   pub outputs : all_differ names.outputs ≡ true
+  pub analogs : all_differ names.analog ≡ true
+  pub variables : all_differ names.variables ≡ true
   pub relays : all_differ names.relays ≡ true
+  pub persistent : all_differ names.persistent ≡ true
+  -- analog and persistent names are variables
+  pub analog_variables : are_in names.variables names.analog ≡ true
+  pub persistent_variables : are_in names.variables names.persistent ≡ true
   pub input_count : program.inputs ≡ length names.inputs
   pub output_count : program.outputs ≡ length names.outputs
+  pub analog_count : program.analogs ≡ length names.analog
+  pub variable_count : program.variables ≡ length names.variables
+  pub persistent_count : program.persistent ≡ length names.persistent
+  pub few_persistent : program.persistent ≤ most_persistent
   -- the first bits are the relays
   pub bit_count : length names.relays ≤ program.bits
   pub few_bits : program.bits ≤ most_bits
@@ -39,32 +57,14 @@ pub record IsSound (names : Names) (program : IntProgram) : Type 0 where
 abbrev pub most_operations : ℕ
 most_operations = 1000000
 
--- What a text says of names and a program: memories are bits like others, all bits count as kept, and there are no variables.
+-- What a text says of names and a program: memories are bits like others, and all bits count as kept.
 abbrev pub read_as : ℕ → Names → IntProgram → InterpProgram
 read_as cycle names program = record {
   cycle = cycle;
-  names = record {
-    inputs = names.inputs;
-    outputs = names.outputs;
-    relays = names.relays;
-    variables = [];
-    analog = [];
-    persistent = [];
-    memories = 0;
-  };
-  program = record {
-    ops = program.ops;
-    inputs = program.inputs;
-    outputs = program.outputs;
-    analogs = 0;
-    variables = 0;
-    kept_bits = program.bits;
-    bits = program.bits;
-    persistent = 0;
-    starts = [];
-  };
+  names = record names { memories = 0 };
+  program = record program { kept_bits = program.bits };
   -- in front of `code` stand its heading, the cycle, the names and the number of bits
-  code_line = 4 + (length names.inputs + (length names.outputs + length names.relays));
+  code_line = 4 + (length names.inputs + (length names.outputs + (length names.analog + (length names.variables + (length names.relays + length names.persistent)))));
 }
 
 -- The lines say the program. That it has no more operations than it may is not in this.
@@ -83,6 +83,9 @@ pub record IsWritable (cycle : ℕ) (names : Names) (program : IntProgram) : Typ
   pub sound : IsSound names program
   pub inputs : list_all (is_name_within 66) names.inputs ≡ true
   pub outputs : list_all (is_name_within 66) names.outputs ≡ true
+  pub analogs : list_all (is_name_within 66) names.analog ≡ true
+  pub variables : list_all (is_name_within 66) names.variables ≡ true
   pub relays : list_all (is_name_within 66) names.relays ≡ true
+  pub persistent : list_all (is_name_within 66) names.persistent ≡ true
   pub timed : cycle ≤ 999999999
   pub few : length program.ops ≤ most_operations

@@ -4,9 +4,12 @@
 pub mod laws;
 mod line;
 pub mod machine;
+mod operation;
 pub mod program;
+mod range;
 pub mod read;
 mod reader;
 #[cfg(test)]
 mod tests;
+mod word;
 pub mod write;

@@ -1,54 +1,88 @@
 //! One line of a text.
 
-ghost use Rattle.std.specs.Prelude.{◌≡◌};
-ghost use Rattle.std.specs.Option.{option_map};
-ghost use Rattle.std.specs.List.{list_all};
-ghost use Rattle.ladder_tree.specs.Names.{is_name_byte, is_name_within};
-ghost use Rattle.interp_code.specs.Line.{name, digits_to, number_to, dest_of, source_of, word_alone, word_with_one, word_with_two, line_of, magic_of};
+ghost use Rattle.std.specs.Prelude.{◌≡◌, IfOk};
+ghost use Rattle.std.specs.Option.{option_map, option_or};
+ghost use Rattle.interp_code.specs.Line as spec;
+ghost use Rattle.interp_code.specs.Line.{Operation, op_alone, op_with_one, op_with_two};
 ghost use Rattle.interp_code.specs.Said.{said};
 
-use int_code::op::{BitDest, BitSource, IntOp};
-use ld_base::lines::split_piece;
+use crate::operation::{op_alone, op_with_more, op_with_one, op_with_two};
+use crate::word::{first_word, integer, name, number_to};
+use int_code::op::IntOp;
+use std::alloc::{AllocError, Global};
 
-/// What a line says.
-#[derive(Clone, Copy)]
+/// What a line says. Names are parts of the text.
+#[derive(Drop)]
 pub enum Line<'a> {
     Magic,
     Cycle(u32),
     Input(&'a [u8]),
     Output(&'a [u8]),
+    Analog(&'a [u8]),
+    Variable(&'a [u8], i16),
     Relay(&'a [u8]),
+    Persistent(&'a [u8]),
     BitCount(u32),
     Code,
     Operation(IntOp),
     End,
 }
 
-/// What the line says, if it has a shape.
-pub fn line_of(line: &[u8]) -> Option<Line<'_>>
-    ensures { option_map said result ≡ line_of line.now }
+/// What the line says, if it has a shape. The values of a table take memory.
+pub fn line_of(alloc: Global, line: &[u8]) -> Result<Option<Line<'_>>, AllocError>
+    ensures { IfOk result (λ l. option_map said l ≡ spec.line_of line.now) }
 {
-    let Some((word, behind)) = split_piece(b' ', line) else {
-        return word_alone(line);
+    let (word, behind) = first_word(line);
+    let Some(text) = behind else {
+        return Ok(line_alone(word));
     };
-    let Some((first, behind)) = split_piece(b' ', behind) else {
-        return word_with_one(word, behind);
+    let (a, behind) = first_word(text);
+    let Some(text) = behind else {
+        return Ok(line_with_one(word, a));
     };
-    match split_piece(b' ', behind) {
-        None => word_with_two(word, first, behind),
-        Some(_) => None,
+    let (b, behind) = first_word(text);
+    let Some(text) = behind else {
+        return Ok(line_with_two(word, a, b));
+    };
+    let (c, behind) = first_word(text);
+    match op_with_more(alloc, word, a, b, c, behind)? {
+        Some(op) => Ok(Some(Line::Operation(op))),
+        None => Ok(None),
     }
 }
 
-fn word_alone(word: &[u8]) -> Option<Line<'_>>
-    ensures { option_map said result ≡ word_alone word.now }
+fn line_alone(word: &[u8]) -> Option<Line<'static>>
+    ensures { option_map said result ≡ option_or (option_map Operation (op_alone word.now)) (spec.head_alone word.now) }
+{
+    match op_alone(word) {
+        Some(op) => Some(Line::Operation(op)),
+        None => head_alone(word),
+    }
+}
+
+fn line_with_one<'a>(word: &[u8], a: &'a [u8]) -> Option<Line<'a>>
+    ensures { option_map said result ≡ option_or (option_map Operation (op_with_one word.now a.now)) (spec.head_with_one word.now a.now) }
+{
+    match op_with_one(word, a) {
+        Some(op) => Some(Line::Operation(op)),
+        None => head_with_one(word, a),
+    }
+}
+
+fn line_with_two<'a>(word: &[u8], a: &'a [u8], b: &[u8]) -> Option<Line<'a>>
+    ensures { option_map said result ≡ option_or (option_map Operation (op_with_two word.now a.now b.now)) (spec.head_with_two word.now a.now b.now) }
+{
+    match op_with_two(word, a, b) {
+        Some(op) => Some(Line::Operation(op)),
+        None => head_with_two(word, a, b),
+    }
+}
+
+fn head_alone(word: &[u8]) -> Option<Line<'static>>
+    ensures { option_map said result ≡ spec.head_alone word.now }
 {
     if word == b"code".as_slice() {
         Some(Line::Code)
-    } else if word == b"els".as_slice() {
-        Some(Line::Operation(IntOp::Els))
-    } else if word == b"fi".as_slice() {
-        Some(Line::Operation(IntOp::Fi))
     } else if word == b"end".as_slice() {
         Some(Line::End)
     } else {
@@ -56,8 +90,8 @@ fn word_alone(word: &[u8]) -> Option<Line<'_>>
     }
 }
 
-fn word_with_one<'a>(word: &[u8], a: &'a [u8]) -> Option<Line<'a>>
-    ensures { option_map said result ≡ word_with_one word.now a.now }
+fn head_with_one<'a>(word: &[u8], a: &'a [u8]) -> Option<Line<'a>>
+    ensures { option_map said result ≡ spec.head_with_one word.now a.now }
 {
     if word == b"LDint".as_slice() {
         magic(a)
@@ -67,138 +101,37 @@ fn word_with_one<'a>(word: &[u8], a: &'a [u8]) -> Option<Line<'a>>
         Some(Line::Input(name(a)?))
     } else if word == b"output".as_slice() {
         Some(Line::Output(name(a)?))
+    } else if word == b"analog".as_slice() {
+        Some(Line::Analog(name(a)?))
     } else if word == b"relay".as_slice() {
         Some(Line::Relay(name(a)?))
+    } else if word == b"persist".as_slice() {
+        Some(Line::Persistent(name(a)?))
     } else if word == b"bits".as_slice() {
         Some(Line::BitCount(number_to(u32::MAX, a)?))
-    } else if word == b"set".as_slice() {
-        Some(Line::Operation(IntOp::Set { b: dest_of(a)? }))
-    } else if word == b"clr".as_slice() {
-        Some(Line::Operation(IntOp::Clr { b: dest_of(a)? }))
-    } else if word == b"ifs".as_slice() {
-        Some(Line::Operation(IntOp::Ifs { s: source_of(a)? }))
-    } else if word == b"ifc".as_slice() {
-        Some(Line::Operation(IntOp::Ifc { s: source_of(a)? }))
     } else {
         None
     }
 }
 
-fn word_with_two(word: &[u8], a: &[u8], b: &[u8]) -> Option<Line<'static>>
-    ensures { option_map said result ≡ word_with_two word.now a.now b.now }
+fn head_with_two<'a>(word: &[u8], a: &'a [u8], b: &[u8]) -> Option<Line<'a>>
+    ensures { option_map said result ≡ spec.head_with_two word.now a.now b.now }
 {
-    if word == b"cpy".as_slice() {
-        let b_of = dest_of(a)?;
-        let s = source_of(b)?;
-        Some(Line::Operation(IntOp::Cpy { b: b_of, s }))
-    } else if word == b"not".as_slice() {
-        let b_of = dest_of(a)?;
-        let s = source_of(b)?;
-        Some(Line::Operation(IntOp::Not { b: b_of, s }))
+    if word == b"var".as_slice() {
+        let (name, start) = (name(a)?, integer(b)?);
+        Some(Line::Variable(name, start))
     } else {
         None
     }
 }
 
+/// The number of the format.
 fn magic(version: &[u8]) -> Option<Line<'static>>
-    ensures { option_map said result ≡ magic_of version.now }
+    ensures { option_map said result ≡ spec.magic_of version.now }
 {
     if version == b"1".as_slice() {
         Some(Line::Magic)
     } else {
         None
     }
-}
-
-/// A bit that is written.
-fn dest_of(word: &[u8]) -> Option<BitDest>
-    ensures { result ≡ dest_of word.now }
-{
-    let (letter, index) = word.split_first()?;
-    match letter {
-        b'b' => Some(BitDest::B(digits_to(u32::MAX, index)?)),
-        b'y' => Some(BitDest::Y(digits_to(u32::MAX, index)?)),
-        _ => None,
-    }
-}
-
-/// A bit that is read.
-fn source_of(word: &[u8]) -> Option<BitSource>
-    ensures { result ≡ source_of word.now }
-{
-    let (letter, index) = word.split_first()?;
-    match letter {
-        b'b' => Some(BitSource::B(digits_to(u32::MAX, index)?)),
-        b'x' => Some(BitSource::X(digits_to(u32::MAX, index)?)),
-        b'y' => Some(BitSource::Y(digits_to(u32::MAX, index)?)),
-        _ => None,
-    }
-}
-
-/// The word, if it is a name.
-fn name(word: &[u8]) -> Option<&[u8]>
-    ensures { option_map (λ n. n.now) result ≡ name word.now }
-{
-    if is_name(word) { Some(word) } else { None }
-}
-
-fn is_name(word: &[u8]) -> bool
-    ensures { result ≡ is_name_within 66 word.now }
-{
-    match word {
-        [] => false,
-        [first, ..] => {
-            if first.is_ascii_digit() {
-                false
-            } else if word.len() > 66 {
-                false
-            } else {
-                are_name_bytes(word)
-            }
-        }
-    }
-}
-
-fn are_name_bytes(word: &[u8]) -> bool
-    ensures { result ≡ list_all is_name_byte word.now }
-{
-    word.iter().all(|b| is_name_byte(*b))
-}
-
-fn is_name_byte(b: u8) -> bool
-    ensures { result ≡ is_name_byte b }
-{
-    b.is_ascii_alphabetic() || b.is_ascii_digit() || b == b'_'
-}
-
-/// A number from 0 to the most.
-fn number_to(most: u32, word: &[u8]) -> Option<u32>
-    ensures { result ≡ number_to most word.now }
-{
-    let (sign, digits) = word.split_first()?;
-    if *sign == b'-' {
-        digits_to(0, digits)
-    } else {
-        digits_to(most, word)
-    }
-}
-
-/// Digits that write a number from 0 to the most.
-fn digits_to(most: u32, digits: &[u8]) -> Option<u32>
-    ensures { result ≡ digits_to most digits.now }
-{
-    if digits.is_empty() {
-        return None;
-    }
-    let mut value: u64 = 0;
-    for digit in digits {
-        if !digit.is_ascii_digit() {
-            return None;
-        }
-        value = 10 * value + u64::from(*digit - b'0');
-        if value > u64::from(most) {
-            return None;
-        }
-    }
-    Some(value as u32)
 }

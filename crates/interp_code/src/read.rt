@@ -2,18 +2,18 @@
 
 ghost use Rattle.std.specs.Prelude.{◌≡◌, ◌+◌, ◌≤◌, ◌<◌, ◌^◌, length, IfOk, IfErr};
 ghost use Rattle.ld_base.specs.Lines.{lines};
-ghost use Rattle.interp_code.specs.Program.{IsProgram};
+ghost use Rattle.interp_code.specs.Program.{IsProgram, IsWritable};
 ghost use Rattle.interp_code.specs.Machine.{IsRunnable};
 ghost use Rattle.interp_code.specs.Refused.{most_bytes, judged};
 ghost use Rattle.interp_code.specs.Caused.{IsCaused};
 ghost use Rattle.interp_code.specs.Draft.{is_ended, names_of};
-ghost use Rattle.interp_code.specs.Held.{draft, program_of};
+ghost use Rattle.interp_code.specs.Held.{draft, name_count, program_of};
 ghost use Rattle.interp_code.specs.Outcome.{IsOutcome};
 
 use crate::program::InterpProgram;
 use crate::reader::{NameSet, Reader, Stage};
 use int_code::op::IntProgram;
-use ladder_tree::element::{Name, Nums};
+use ladder_tree::element::Name;
 use ladder_tree::names::{NameList, Names};
 use ld_base::lines::split_line;
 use std::alloc::{AllocError, Global};
@@ -57,6 +57,7 @@ pub fn read_interp(alloc: Global, text: &[u8]) -> Result<InterpProgram, InterpEr
     ensures within { IfOk result (λ p. length text.now ≤ most_bytes) }
     ensures error { IfErr result (λ e. IsCaused text.now e) }
     ensures runnable { IfOk result IsRunnable }
+    ensures writable { IfOk result (λ p. IsWritable p.cycle p.names p.program) }
 {
     let outcome = match read_lines(alloc, judged(text)) {
         Ok(outcome) => outcome,
@@ -96,7 +97,8 @@ fn has_ended(stage: Stage) -> bool
 {
     match stage {
         Stage::Ended => true,
-        Stage::Start | Stage::Headed | Stage::Named | Stage::Sized | Stage::Coded => false,
+        Stage::Start | Stage::Headed | Stage::Named | Stage::Kept => false,
+        Stage::Sized | Stage::Coded => false,
     }
 }
 
@@ -110,7 +112,7 @@ fn read_lines<'a>(alloc: Global, text: &'a [u8]) -> Result<Outcome<'a>, AllocErr
     let mut line = 0;
     while let Some((bytes, behind)) = split_line(rest) {
         line += 1;
-        if !reader.read(bytes)? {
+        if !reader.read(alloc, bytes)? {
             return Ok(Outcome::Stopped { line });
         }
         if reader.ops.len() > MOST_OPERATIONS {
@@ -126,31 +128,29 @@ fn read_lines<'a>(alloc: Global, text: &'a [u8]) -> Result<Outcome<'a>, AllocErr
 
 /// The program of a text that was read to its end, and that has so many lines.
 fn program(alloc: Global, reader: Reader<'_>, count: u32) -> Result<InterpProgram, AllocError>
-    requires { count ≡ 5 + (length (draft reader).inputs + (length (draft reader).outputs + (length (draft reader).relays + length (draft reader).ops))) }
+    requires { count ≡ 5 + (name_count (draft reader).names + length (draft reader).ops) }
     ensures { IfOk result (λ p. p ≡ program_of (draft reader.entry)) }
 {
     let names = Names {
         inputs: name_list(alloc, &reader.inputs)?,
         outputs: name_list(alloc, &reader.outputs)?,
         relays: name_list(alloc, &reader.relays)?,
-        variables: NameList::new(alloc),
-        analog: NameList::new(alloc),
-        persistent: NameList::new(alloc),
+        variables: name_list(alloc, &reader.variables)?,
+        analog: name_list(alloc, &reader.analogs)?,
+        persistent: name_list(alloc, &reader.persistent)?,
         memories: 0,
     };
-    let inputs = reader.inputs.len() as u32;
-    let outputs = reader.outputs.len() as u32;
     let code_line = count - 1 - reader.ops.len() as u32;
     let program = IntProgram {
         ops: reader.ops,
-        inputs,
-        outputs,
-        analogs: 0,
-        variables: 0,
+        inputs: reader.inputs.len() as u32,
+        outputs: reader.outputs.len() as u32,
+        analogs: reader.analogs.len() as u32,
+        variables: reader.variables.len() as u32,
         kept_bits: reader.bits,
         bits: reader.bits,
-        persistent: 0,
-        starts: Nums::new(alloc),
+        persistent: reader.persistent.len() as u32,
+        starts: reader.starts,
     };
     Ok(InterpProgram {
         cycle: reader.cycle,

@@ -1,19 +1,27 @@
 //! What is read of a text, line by line.
 
 ghost use Rattle.std.specs.Prelude.{◌≡◌, IfOk, reverse};
+ghost use Rattle.std.specs.List.{list_any};
+ghost use Rattle.std.specs.Str.{bytes_eq};
 ghost use Rattle.interp_code.specs.declared.reader.Stage.TheVariants as stage;
 ghost use Rattle.interp_code.specs.Said.{said};
-ghost use Rattle.interp_code.specs.Line.{Input, Output, Relay, BitCount, Operation, End};
-ghost use Rattle.interp_code.specs.Draft.{Takes, ifs_behind, with_name, names_of, is_dest, is_source, is_in_range, sizes, start, step, step_at, step_line};
+ghost use Rattle.interp_code.specs.Line.{Input, Output, Analog, Variable, Relay, Persistent, BitCount, Operation, End};
+ghost use Rattle.interp_code.specs.Program.{are_in};
+ghost use Rattle.interp_code.specs.Draft.{Takes, ifs_behind, with_name, names_of, sizes, start, step, step_at, step_kept, step_line};
 ghost use Rattle.interp_code.specs.Held.{draft, counted};
 
 use crate::line::{Line, line_of};
+use crate::range::{Counts, is_in_range};
 use indexmap::IndexSet;
-use int_code::op::{BitDest, BitSource, IntOp, Ops};
+use int_code::op::{IntOp, Ops, Shape};
+use ladder_tree::element::Nums;
 use std::alloc::{AllocError, Global};
 
 /// How many bits a program may have.
 const MOST_BITS: u32 = 100_000;
+
+/// How many persistent variables a program may have.
+const MOST_PERSISTENT: usize = 256;
 
 /// Which lines may come next.
 #[derive(Clone, Copy)]
@@ -22,8 +30,10 @@ pub enum Stage {
     Start,
     /// The format was read.
     Headed,
-    /// The cycle was read: names may come, or the number of bits.
+    /// The cycle was read: inputs, outputs, analog inputs and variables may come, and what comes behind those.
     Named,
+    /// A relay or a persistent variable was read: more of them may come, or the number of bits.
+    Kept,
     /// The number of bits was read.
     Sized,
     /// `code` was read: operations may come, or `end`.
@@ -35,14 +45,6 @@ pub enum Stage {
 /// Names in the order in which they came, each once. They are parts of the text.
 pub type NameSet<'a> = IndexSet<&'a [u8]>;
 
-/// How many there are of what operations name.
-#[derive(Clone, Copy)]
-pub struct Counts {
-    pub bits: u32,
-    pub outputs: usize,
-    pub inputs: usize,
-}
-
 /// What was read so far.
 #[derive(Drop)]
 pub struct Reader<'a> {
@@ -50,7 +52,12 @@ pub struct Reader<'a> {
     pub cycle: u32,
     pub inputs: NameSet<'a>,
     pub outputs: NameSet<'a>,
+    pub analogs: NameSet<'a>,
+    pub variables: NameSet<'a>,
+    /// A start value for each variable.
+    pub starts: Nums,
     pub relays: NameSet<'a>,
+    pub persistent: NameSet<'a>,
     pub bits: u32,
     pub ops: Ops,
     /// For each open if, the innermost last, whether it had its `els`.
@@ -66,7 +73,11 @@ impl<'a> Reader<'a> {
             cycle: 0,
             inputs: IndexSet::new(alloc),
             outputs: IndexSet::new(alloc),
+            analogs: IndexSet::new(alloc),
+            variables: IndexSet::new(alloc),
+            starts: Nums::new(alloc),
             relays: IndexSet::new(alloc),
+            persistent: IndexSet::new(alloc),
             bits: 0,
             ops: Ops::new(alloc),
             ifs: Vec::new(alloc),
@@ -74,10 +85,10 @@ impl<'a> Reader<'a> {
     }
 
     /// Reads a line, and says whether it may stand where it stands.
-    pub fn read(&mut self, line: &'a [u8]) -> Result<bool, AllocError>
+    pub fn read(&mut self, alloc: Global, line: &'a [u8]) -> Result<bool, AllocError>
         ensures { IfOk result (λ ok. Takes (step_line (draft self.old) line.now) ok (draft self.new)) }
     {
-        match line_of(line) {
+        match line_of(alloc, line)? {
             None => Ok(false),
             Some(line) => self.take(line),
         }
@@ -90,6 +101,7 @@ impl<'a> Reader<'a> {
             Stage::Start => Ok(self.take_magic(line)),
             Stage::Headed => Ok(self.take_cycle(line)),
             Stage::Named => self.take_name(line),
+            Stage::Kept => self.take_kept(line),
             Stage::Sized => Ok(self.take_code(line)),
             Stage::Coded => self.take_operation(line),
             Stage::Ended => Ok(false),
@@ -127,7 +139,19 @@ impl<'a> Reader<'a> {
         match line {
             Line::Input(name) => self.take_input(name),
             Line::Output(name) => self.take_output(name),
+            Line::Analog(name) => self.take_analog(name),
+            Line::Variable(name, start) => self.take_variable(name, start),
+            _ if self.analogs_are_variables() => self.take_kept(line),
+            _ => Ok(false),
+        }
+    }
+
+    fn take_kept(&mut self, line: Line<'a>) -> Result<bool, AllocError>
+        ensures { IfOk result (λ ok. Takes (step_kept (draft self.old) (said line.entry)) ok (draft self.new)) }
+    {
+        match line {
             Line::Relay(name) => self.take_relay(name),
+            Line::Persistent(name) => self.take_persistent(name),
             Line::BitCount(bits) => Ok(self.take_bits(bits)),
             _ => Ok(false),
         }
@@ -158,7 +182,7 @@ impl<'a> Reader<'a> {
     fn take_input(&mut self, name: &'a [u8]) -> Result<bool, AllocError>
         ensures { IfOk result (λ ok. Takes (step_at stage.Named (draft self.old) (Input name.now)) ok (draft self.new)) }
     {
-        if self.outputs.len() != 0 || self.relays.len() != 0 {
+        if self.outputs.len() != 0 || self.analogs.len() != 0 || self.variables.len() != 0 {
             return Ok(false);
         }
         add_name(&mut self.inputs, name)
@@ -167,23 +191,65 @@ impl<'a> Reader<'a> {
     fn take_output(&mut self, name: &'a [u8]) -> Result<bool, AllocError>
         ensures { IfOk result (λ ok. Takes (step_at stage.Named (draft self.old) (Output name.now)) ok (draft self.new)) }
     {
-        if self.relays.len() != 0 {
+        if self.analogs.len() != 0 || self.variables.len() != 0 {
             return Ok(false);
         }
         add_name(&mut self.outputs, name)
     }
 
-    fn take_relay(&mut self, name: &'a [u8]) -> Result<bool, AllocError>
-        ensures { IfOk result (λ ok. Takes (step_at stage.Named (draft self.old) (Relay name.now)) ok (draft self.new)) }
+    fn take_analog(&mut self, name: &'a [u8]) -> Result<bool, AllocError>
+        ensures { IfOk result (λ ok. Takes (step_at stage.Named (draft self.old) (Analog name.now)) ok (draft self.new)) }
     {
-        if self.relays.len() >= MOST_BITS as usize {
+        if self.variables.len() != 0 {
             return Ok(false);
         }
+        add_name(&mut self.analogs, name)
+    }
+
+    fn take_variable(&mut self, name: &'a [u8], start: i16) -> Result<bool, AllocError>
+        ensures { IfOk result (λ ok. Takes (step_at stage.Named (draft self.old) (Variable name.now start)) ok (draft self.new)) }
+    {
+        if !add_name(&mut self.variables, name)? {
+            return Ok(false);
+        }
+        self.starts.push(start)?;
+        Ok(true)
+    }
+
+    /// Whether each analog name is that of a variable. This is asked once, where all variables were read.
+    fn analogs_are_variables(&self) -> bool
+        ensures { result ≡ are_in (draft self.now).names.variables (draft self.now).names.analog }
+    {
+        for name in self.analogs.as_slice() {
+            if !has_name(&self.variables, name) {
+                return false;
+            }
+        }
+        true
+    }
+
+    fn take_relay(&mut self, name: &'a [u8]) -> Result<bool, AllocError>
+        ensures { IfOk result (λ ok. Takes (step_kept (draft self.old) (Relay name.now)) ok (draft self.new)) }
+    {
+        if self.persistent.len() != 0 || self.relays.len() >= MOST_BITS as usize {
+            return Ok(false);
+        }
+        self.stage = Stage::Kept;
         add_name(&mut self.relays, name)
     }
 
+    fn take_persistent(&mut self, name: &'a [u8]) -> Result<bool, AllocError>
+        ensures { IfOk result (λ ok. Takes (step_kept (draft self.old) (Persistent name.now)) ok (draft self.new)) }
+    {
+        if !has_name(&self.variables, name) || self.persistent.len() >= MOST_PERSISTENT {
+            return Ok(false);
+        }
+        self.stage = Stage::Kept;
+        add_name(&mut self.persistent, name)
+    }
+
     fn take_bits(&mut self, bits: u32) -> bool
-        ensures { Takes (step_at stage.Named (draft self.old) (BitCount bits)) result (draft self.new) }
+        ensures { Takes (step_kept (draft self.old) (BitCount bits)) result (draft self.new) }
     {
         if self.relays.len() > bits as usize || bits > MOST_BITS {
             return false;
@@ -196,10 +262,10 @@ impl<'a> Reader<'a> {
     fn add_operation(&mut self, op: IntOp) -> Result<bool, AllocError>
         ensures { IfOk result (λ ok. Takes (step_at stage.Coded (draft self.old) (Operation op)) ok (draft self.new)) }
     {
-        if !is_in_range(self.counts(), op) {
+        if !is_in_range(self.counts(), &op) {
             return Ok(false);
         }
-        if !nest(&mut self.ifs, op)? {
+        if !nest(&mut self.ifs, op.shape())? {
             return Ok(false);
         }
         self.ops.push(op)?;
@@ -223,6 +289,9 @@ impl<'a> Reader<'a> {
             bits: self.bits,
             outputs: self.outputs.len(),
             inputs: self.inputs.len(),
+            analogs: self.analogs.len(),
+            variables: self.variables.len(),
+            persistent: self.persistent.len(),
         }
     }
 }
@@ -234,54 +303,30 @@ fn add_name<'a>(names: &mut NameSet<'a>, name: &'a [u8]) -> Result<bool, AllocEr
     Ok(names.insert(name)?)
 }
 
-/// Whether all numbers of an operation are in range.
-fn is_in_range(counts: Counts, op: IntOp) -> bool
-    ensures { result ≡ is_in_range (counted counts) op }
+/// Whether the name is one of these.
+fn has_name(names: &NameSet<'_>, name: &[u8]) -> bool
+    ensures { result ≡ list_any (bytes_eq name.now) (names_of names.now) }
 {
-    match op {
-        IntOp::Set { b } | IntOp::Clr { b } => is_dest(counts, b),
-        IntOp::Cpy { b, s } | IntOp::Not { b, s } => is_dest(counts, b) && is_source(counts, s),
-        IntOp::Ifs { s } | IntOp::Ifc { s } => is_source(counts, s),
-        IntOp::Els | IntOp::Fi => true,
-    }
+    names.contains(name)
 }
 
-fn is_dest(counts: Counts, b: BitDest) -> bool
-    ensures { result ≡ is_dest (counted counts) b }
+/// Opens or closes an if, or takes its `els`. It says whether an operation of this shape may come.
+fn nest(ifs: &mut Vec<bool>, shape: Shape) -> Result<bool, AllocError>
+    ensures { IfOk result (λ ok. Takes (ifs_behind shape (reverse ifs.old.items)) ok (reverse ifs.new.items)) }
 {
-    match b {
-        BitDest::B(k) => k < counts.bits,
-        BitDest::Y(k) => (k as usize) < counts.outputs,
-    }
-}
-
-fn is_source(counts: Counts, s: BitSource) -> bool
-    ensures { result ≡ is_source (counted counts) s }
-{
-    match s {
-        BitSource::B(k) => k < counts.bits,
-        BitSource::X(k) => (k as usize) < counts.inputs,
-        BitSource::Y(k) => (k as usize) < counts.outputs,
-    }
-}
-
-/// Opens or closes an if, or takes its `els`. It says whether the operation may come.
-fn nest(ifs: &mut Vec<bool>, op: IntOp) -> Result<bool, AllocError>
-    ensures { IfOk result (λ ok. Takes (ifs_behind op (reverse ifs.old.items)) ok (reverse ifs.new.items)) }
-{
-    match op {
-        IntOp::Ifs { .. } | IntOp::Ifc { .. } => {
+    match shape {
+        Shape::Opens => {
             ifs.push(false)?;
             Ok(true)
         }
-        IntOp::Els => match ifs.pop() {
+        Shape::Turns => match ifs.pop() {
             Some(false) => {
                 ifs.push(true)?;
                 Ok(true)
             }
             _ => Ok(false),
         },
-        IntOp::Fi => Ok(ifs.pop().is_some()),
-        IntOp::Set { .. } | IntOp::Clr { .. } | IntOp::Cpy { .. } | IntOp::Not { .. } => Ok(true),
+        Shape::Closes => Ok(ifs.pop().is_some()),
+        Shape::Plain => Ok(true),
     }
 }

@@ -1,6 +1,7 @@
 //! Texts that are read and refused.
 
-ghost use Rattle.std.specs.Prelude.{◌≡◌, []};
+ghost use Rattle.std.specs.Prelude.{◌≡◌, [], IfOk};
+ghost use Rattle.interp_code.specs.Program.{IsWritable};
 
 use crate::program::InterpProgram;
 use crate::read::{InterpError, read_interp};
@@ -11,8 +12,52 @@ use ladder_tree::names::{NameList, Names};
 use std::alloc::Global;
 use std::test::Fail;
 
-const TEXT: &str =
-    "LDint 1\ncycle 10000\ninput Xa\ninput Xb\noutput Ya\nrelay Ra\nbits 5\ncode\ncpy b1 x0\nnot b2 y0\nifs b1\nset y0\nels\nifc x1\nclr b0\nfi\nfi\nend\n";
+/// A text with each line and each operation.
+const TEXT: &str = "LDint 1
+cycle 10000
+input Xa
+input Xb
+output Ya
+analog speed
+var speed 0
+var level -32768
+relay Ra
+persist level
+bits 5
+code
+set y0
+clr b1
+cpy b1 x0
+not b2 y0
+ifs b1
+els
+ifc x1
+fi
+fi
+iflt v0 -5
+fi
+ifeq v0 v1
+fi
+ifee v1 0
+fi
+lit v0 -32768
+mov v0 v1
+add v0 v1 1
+sub v0 v1 v0
+mul v1 -2 v0
+div v1 v0 3
+inc v0
+dec v1
+adc v0 0
+pwm v0 1000
+rx v0 b3
+tx v0 b3 b4
+eebusy b4
+eerd v1 0
+eewr v1 0
+tab v0 v1 3 -1 0 32767
+end
+";
 
 fn fault_line(alloc: Global, text: &str) -> Result<u32, Fail> {
     match read_interp(alloc, text.as_bytes()) {
@@ -22,7 +67,9 @@ fn fault_line(alloc: Global, text: &str) -> Result<u32, Fail> {
     }
 }
 
-fn program(alloc: Global, text: &str) -> Result<InterpProgram, Fail> {
+fn program(alloc: Global, text: &str) -> Result<InterpProgram, Fail>
+    ensures { IfOk result (λ p. IsWritable p.cycle p.names p.program) }
+{
     Ok(read_interp(alloc, text.as_bytes())?)
 }
 
@@ -30,13 +77,23 @@ fn program(alloc: Global, text: &str) -> Result<InterpProgram, Fail> {
 fn reads_a_program(rt: HostRuntime) -> Result<(), Fail> {
     let p = program(rt.alloc(), TEXT)?;
     assert_eq!(rt; p.cycle, 10000);
-    assert_eq!(rt; p.code_line, 8);
-    assert_eq!(rt; p.program.ops.len(), 9);
+    assert_eq!(rt; p.code_line, 12);
+    assert_eq!(rt; p.program.ops.len(), 31);
     assert_eq!(rt; p.names.inputs.len(), 2);
-    assert_eq!(rt; p.names.outputs.len(), 1);
+    assert_eq!(rt; p.names.analog.len(), 1);
     assert_eq!(rt; p.names.relays.len(), 1);
     assert_eq!(rt; p.program.bits, 5);
     assert_eq!(rt; p.program.kept_bits, 5);
+    assert_eq!(rt; p.program.persistent, 1);
+    assert_eq!(rt; p.program.starts.as_slice(), [0, -32768].as_slice());
+    Ok(())
+}
+
+#[test]
+fn writes_what_was_read(rt: HostRuntime) -> Result<(), Fail> {
+    let p = program(rt.alloc(), TEXT)?;
+    let text = write_interp(rt.alloc(), p.cycle, &p.names, &p.program)?;
+    assert_eq!(rt; text.as_slice(), TEXT.as_bytes());
     Ok(())
 }
 
@@ -106,6 +163,67 @@ fn refuses_lines(rt: HostRuntime) -> Result<(), Fail> {
     ];
     for (text, line) in rows {
         assert_eq!(rt; fault_line(rt.alloc(), text)?, line, "{text:?}");
+    }
+    Ok(())
+}
+
+#[test]
+fn refuses_names(rt: HostRuntime) -> Result<(), Fail> {
+    let rows = [
+        ("LDint 1\ncycle 0\nanalog a\nrelay Ra\n", 4),
+        ("LDint 1\ncycle 0\nanalog a\npersist a\n", 4),
+        ("LDint 1\ncycle 0\nanalog a\nbits 0\n", 4),
+        (
+            "LDint 1\ncycle 0\nanalog a\nvar a 0\nbits 0\ncode\nend\n",
+            0,
+        ),
+        ("LDint 1\ncycle 0\nvar a 0\nanalog a\n", 4),
+        ("LDint 1\ncycle 0\nvar a 0\nvar a 1\n", 4),
+        ("LDint 1\ncycle 0\nvar a\n", 3),
+        ("LDint 1\ncycle 0\nvar a 32768\n", 3),
+        ("LDint 1\ncycle 0\npersist a\n", 3),
+        ("LDint 1\ncycle 0\nvar a 0\npersist a\npersist a\n", 5),
+        ("LDint 1\ncycle 0\nvar a 0\npersist a\nrelay Ra\n", 5),
+        ("LDint 1\ncycle 0\nrelay Ra\nvar a 0\n", 4),
+    ];
+    for (text, line) in rows {
+        assert_eq!(rt; fault_line(rt.alloc(), text)?, line, "{text:?}");
+    }
+    Ok(())
+}
+
+/// The line at which a text is refused whose one operation, on line 8, stands behind two variables and an analog input.
+fn fault_op(alloc: Global, op: &str) -> Result<u32, Fail> {
+    let head = "LDint 1\ncycle 0\nanalog a\nvar a 0\nvar b 0\nbits 1\ncode\n";
+    let text = format!(in alloc; "{head}{op}\nend\n")?;
+    fault_line(alloc, text.as_str())
+}
+
+#[test]
+fn refuses_operations(rt: HostRuntime) -> Result<(), Fail> {
+    let rows = [
+        ("lit v0 -32768", 0),
+        ("lit v0 -32769", 8),
+        ("inc v1", 0),
+        ("inc v2", 8),
+        ("add v0 v1", 8),
+        ("adc v0 0", 0),
+        ("adc v0 -0", 8),
+        ("adc v0 1", 8),
+        ("pwm 5 -0", 0),
+        ("eerd v0 0", 8),
+        ("tab v0 0 0", 0),
+        ("tab v0 0 2 1 2", 0),
+        ("tab v0 0 2 1", 8),
+        ("tab v0 0 2 1 2 3", 8),
+        ("tab v0 0 2 1 2 ", 8),
+        (
+            "tab v0 0 61 0 0 0 0 0 0 0 0 0 0 0 0 0 0 0 0 0 0 0 0 0 0 0 0 0 0 0 0 0 0 0 0 0 0 0 0 0 0 0 0 0 0 0 0 0 0 0 0 0 0 0 0 0 0 0 0 0 0 0 0 0",
+            8,
+        ),
+    ];
+    for (op, line) in rows {
+        assert_eq!(rt; fault_op(rt.alloc(), op)?, line, "{op:?}");
     }
     Ok(())
 }

@@ -1,6 +1,6 @@
 //! Writing a program's text.
 
-ghost use Rattle.std.specs.Prelude.{◌≡◌, ◌<◌, ◌++◌, ◌∷◌, [], true, OnOk, IfOk, All, map, codes};
+ghost use Rattle.std.specs.Prelude.{◌≡◌, ◌<◌, ◌++◌, ◌∷◌, [], true, OnOk, IfOk, All, length, map, codes};
 ghost use Rattle.std.specs.List.{list_all};
 ghost use Rattle.std.specs.String.{string_bytes};
 ghost use Rattle.ld_base.specs.Lines.{lines};
@@ -8,11 +8,13 @@ ghost use Rattle.ladder_tree.specs.Names.{is_name_within};
 ghost use Rattle.interp_code.specs.Line.{Magic, Cycle, BitCount, Code, End};
 ghost use Rattle.ld_base.specs.Lines.{joined};
 ghost use Rattle.int_code.specs.Text.{op_words};
-ghost use Rattle.interp_code.specs.Text.{line_text, interp_text};
+ghost use Rattle.interp_code.specs.Text.{line_text, interp_text, variables};
 ghost use Rattle.interp_code.specs.Program.{IsWritable, IsProgram, read_as};
+ghost use Rattle.interp_code.specs.Ranges.{IsShort, IsShortSource, HasShorts};
+ghost use Rattle.interp_code.specs.Written.{name_lines, AreNames};
 
-use int_code::op::{IntOp, IntProgram};
-use ladder_tree::element::Name;
+use int_code::op::{IntOp, IntProgram, NumSource};
+use ladder_tree::element::{Name, Nums};
 use ladder_tree::names::Names;
 use ld_base::list::List;
 use std::alloc::{AllocError, Global};
@@ -35,11 +37,11 @@ pub fn write_interp(
     // A read shows the proof that these are in a u32's range.
     let _inputs = program.inputs;
     let _outputs = program.outputs;
+    let _analogs = program.analogs;
+    let _variables = program.variables;
     let mut text = String::new(alloc);
     push_head(&mut text, cycle)?;
-    push_names(&mut text, "input ", names.inputs.as_slice())?;
-    push_names(&mut text, "output ", names.outputs.as_slice())?;
-    push_names(&mut text, "relay ", names.relays.as_slice())?;
+    push_all_names(&mut text, names, program.starts.as_slice())?;
     push_sizes(&mut text, program.bits)?;
     push_operations(&mut text, program.ops.as_slice())?;
     text.push_str("end\n")?;
@@ -51,6 +53,22 @@ fn push_head(text: &mut String, cycle: u32) -> Result<(), AllocError>
     ensures { OnOk result (string_bytes text.new ≡ string_bytes text.old ++ joined (map line_text (Magic ∷ (Cycle cycle ∷ [])))) }
 {
     writeln!(text, "LDint 1\ncycle {cycle}")
+}
+
+/// Appends the lines of all names. Where there is one, a start value is a number of 16 bits.
+fn push_all_names(text: &mut String, names: &Names, starts: &[i16]) -> Result<(), AllocError>
+    requires names { AreNames names.now }
+    requires starts { length starts.now ≡ length names.now.variables }
+    ensures text { OnOk result (string_bytes text.new ≡ string_bytes text.old ++ joined (map line_text (name_lines names.now starts.now))) }
+    ensures shorts { OnOk result (All IsShort starts.now) }
+{
+    push_names(text, "input ", names.inputs.as_slice())?;
+    push_names(text, "output ", names.outputs.as_slice())?;
+    push_names(text, "analog ", names.analog.as_slice())?;
+    push_variables(text, names.variables.as_slice(), starts)?;
+    push_names(text, "relay ", names.relays.as_slice())?;
+    push_names(text, "persist ", names.persistent.as_slice())?;
+    Ok(())
 }
 
 /// Appends the lines behind the names, in front of the operations.
@@ -84,12 +102,81 @@ fn push_names(text: &mut String, word: &str, names: &[Name]) -> Result<(), Alloc
     Ok(())
 }
 
-/// Appends the lines of operations.
+/// Appends a line for each variable: its name and its start value.
+fn push_variables(text: &mut String, names: &[Name], starts: &[i16]) -> Result<(), AllocError>
+    requires names { list_all (is_name_within 66) names.now ≡ true }
+    requires starts { length starts.now ≡ length names.now }
+    ensures text { OnOk result (string_bytes text.new ≡ string_bytes text.old ++ joined (map line_text (variables names.now starts.now))) }
+    ensures shorts { OnOk result (All IsShort starts.now) }
+{
+    for k in 0..names.len() {
+        let start = starts[k];
+        text.push_str("var ")?;
+        push_ascii(text, names[k].as_slice())?;
+        writeln!(text, " {start}")?;
+    }
+    Ok(())
+}
+
+/// Appends the lines of operations. Their numbers are in the ranges of their types.
 fn push_operations(text: &mut String, ops: &[IntOp]) -> Result<(), AllocError>
-    ensures { OnOk result (string_bytes text.new ≡ string_bytes text.old ++ joined (map op_words ops.now)) }
+    ensures text { OnOk result (string_bytes text.new ≡ string_bytes text.old ++ joined (map op_words ops.now)) }
+    ensures shorts { OnOk result (All HasShorts ops.now) }
 {
     for op in ops {
+        read_numbers(op);
         writeln!(text, "{op}")?;
     }
     Ok(())
 }
+
+/// Reads the numbers of an operation, since only a read shows the proof that they are in the ranges of their types.
+fn read_numbers(op: &IntOp)
+    ensures { HasShorts op.now }
+{
+    match op {
+        IntOp::Iflt { w, u } | IntOp::Ifeq { w, u } => read_two(*w, *u),
+        IntOp::Add { w, u, .. } | IntOp::Sub { w, u, .. } => read_two(*w, *u),
+        IntOp::Mul { w, u, .. } | IntOp::Div { w, u, .. } => read_two(*w, *u),
+        IntOp::Lit { n, .. } => read_number(*n),
+        IntOp::Pwm { w, hz } => {
+            read_source(*w);
+            let _hz = *hz;
+        }
+        IntOp::Tx { w, .. } | IntOp::Eewr { w, .. } => read_source(*w),
+        IntOp::Tab { w, values, .. } => {
+            read_source(*w);
+            read_values(values);
+        }
+        _ => {}
+    }
+}
+
+fn read_two(w: NumSource, u: NumSource)
+    ensures w { IsShortSource w }
+    ensures u { IsShortSource u }
+{
+    read_source(w);
+    read_source(u);
+}
+
+fn read_source(w: NumSource)
+    ensures { IsShortSource w }
+{
+    match w {
+        NumSource::V(_) => {}
+        NumSource::N(n) => read_number(n),
+    }
+}
+
+fn read_values(values: &Nums)
+    ensures { All IsShort values.now }
+{
+    for n in values.as_slice() {
+        read_number(*n);
+    }
+}
+
+fn read_number(n: i16)
+    ensures { IsShort n }
+{}

@@ -1,158 +1,193 @@
--- The operations of each element.
-use Rattle.std.proofs.Common.{◌≡◌, ◌≢◌, ℕ, ◌+◌, ◌<◌, ◌≤◌, ◌&&◌, not, Bool, true, false, cond, nat_eq, List, refl, sym, ap, ◌∙◌, subst, arith}
+-- The operations of each element do what the element does.
+use Rattle.std.proofs.Common.{◌≡◌, ℕ, ◌+◌, ◌<◌, ◌≤◌, ◌&&◌, not, Bool, true, false, cond, List, [], ◌∷◌, ◌++◌, refl, sym, ap, ◌∙◌, subst, arith, pos}
 use Rattle.std.proofs.Math.Bool.{and-false, and-true, not-not}
-use Rattle.std.specs.Prelude.{slice_index_or}
-use Rattle.ladder_tree.specs.Names.{is_output, is_input, memories}
+use Rattle.std.specs.Prelude.{slice_index_or, ℤ}
+use Rattle.ladder_tree.specs.Names.{is_output, is_input, memories, operand_names}
 use Rattle.ladder_tree.specs.declared.element.CoilMode.TheVariants as mode
 use Rattle.ladder_tree.specs.declared.element.CoilMode.{CoilMode}
-use Rattle.ladder_tree.specs.declared.element.LeafKind.TheVariants.{Contacts, Coil, Osr, Osf, Short, Open, MasterRelay, Placeholder, Comment}
+use Rattle.ladder_tree.specs.declared.element.CompareHow.TheVariants.{Equ, Neq, Grt, Geq, Les, Leq}
+use Rattle.ladder_tree.specs.declared.element.CompareHow.{CompareHow}
+use Rattle.ladder_tree.specs.declared.element.CounterHow.TheVariants.{Ctu, Ctd, Ctc}
+use Rattle.ladder_tree.specs.declared.element.CounterHow.{CounterHow}
+use Rattle.ladder_tree.specs.declared.element.LeafKind.TheVariants.{Contacts, Coil, Osr, Osf, Short, Open, MasterRelay, Placeholder, Comment, Timer, Counter, Reset, Move, Math, Compare, Shift, Table, ReadAdc, SetPwm, Recv, Send, Persist, Linear, Formatted}
 use Rattle.ladder_tree.specs.declared.element.LeafKind.{LeafKind}
-use Rattle.ladder_meaning.specs.Element.{Terms, element, coil}
+use Rattle.ladder_tree.specs.declared.element.MathHow.TheVariants.{Add, Sub, Mul, Div}
+use Rattle.ladder_tree.specs.declared.element.MathHow.{MathHow}
+use Rattle.ladder_tree.specs.declared.element.Operand.TheVariants.{Var, Num}
+use Rattle.ladder_tree.specs.declared.element.Operand.{Operand}
+use Rattle.ladder_tree.specs.declared.element.TimerHow.TheVariants.{Ton, Tof, Rto}
+use Rattle.ladder_tree.specs.declared.element.TimerHow.{TimerHow}
+use Rattle.ladder_meaning.specs.Element.{element, coil, operand, set_where}
+use Rattle.ladder_meaning.specs.Numbers.{period, computed}
 use Rattle.ladder_meaning.specs.State as ladder
 use Rattle.ladder_meaning.specs.State.{Seen, Now, with_bit, with_memory, with_master, place_of}
 use Rattle.ladder_meaning.specs.declared.reading.Reading.{Reading}
-use Rattle.int_code.specs.Meaning.{Bits, Moment, all_run, run, value_of, with}
+use Rattle.int_code.specs.Meaning.{Moment, all_run, run}
+use Rattle.int_code.specs.Store.{Store, value_of, with}
+use Rattle.int_code.specs.WellFormed.{nests}
 use Rattle.int_code.specs.declared.op.BitDest.TheVariants as dest
-use Rattle.ladder_lower.specs.ElementCode.{element_code, contact_code, coil_code}
-use Rattle.ladder_lower.specs.Wires.{masters, master, spare, outer_wires, power, wire, source_by, source_of, dest_by, dest_of, memory_bit}
+use Rattle.int_code.specs.declared.op.BitSource.TheVariants as source
+use Rattle.int_code.specs.declared.op.IntOp.TheVariants.{Set, Clr, Cpy, Not, Ifs, Ifc, Fi, Lit, Adc}
+use Rattle.ladder_lower.specs.ElementCode.{where_power, move_op, math_op, compare_code, timer_code, counter_code, on_rise, moves, element_code, contact_code, coil_code}
+use Rattle.ladder_lower.specs.Wires.{master, spare, power, source_by, source_of, dest_of, variable_of, number_of, memory_bit}
 use Rattle.ladder_lower.specs.declared.layout.Layout.{Layout}
-use Rattle.ladder_lower.proofs.Lowers.{After, levels}
-use Rattle.ladder_lower.proofs.PlaceLemmas.{place_below}
-use Rattle.ladder_lower.proofs.Stands.{Stands, IsHeld, IsNamed}
-use Rattle.ladder_lower.proofs.WriteLemmas.{wire_write, name_write, memory_write, master_write, same, other}
+use Rattle.ladder_lower.proofs.AfterLemmas.{after, one_after, where_done, cut_by}
+use Rattle.int_code.proofs.AsleepLemmas.{asleep}
+use Rattle.ladder_lower.proofs.CounterLemmas.{counter_done, moves_nest, shift_done}
+use Rattle.ladder_lower.proofs.DeviceLemmas.{pwm_done, receive_done, send_done}
+use Rattle.ladder_lower.proofs.Lowers.{After, levels, terms_of}
+use Rattle.ladder_lower.proofs.NumberLemmas.{held_front, held_back, operand_value, set_done, move_writes, math_writes, table_done, compare_done}
+use Rattle.ladder_lower.proofs.PersistLemmas.{persist_done}
+use Rattle.ladder_lower.proofs.OpenLemmas.{nests_behind}
+use Rattle.ladder_lower.proofs.Stands.{Stands, IsHeld, IsNamed, AllHeld}
+use Rattle.ladder_lower.proofs.TimerLemmas.{timer_done}
+use Rattle.ladder_lower.proofs.WriteLemmas.{same, other}
+use Rattle.ladder_lower.proofs.WroteLemmas.{Wrote, nothing_wrote, power_wrote, memory_wrote, spare_wrote, master_wrote, name_wrote, output_is}
 
-contact_asleep : (p : Layout) (r : Reading) (neg : Bool) (name : List ℕ) (m : Moment) → all_run m.ifs ≡ false → run r (contact_code p neg name) m ≡ m
-contact_asleep p r true name m e = rw e refl
-contact_asleep p r false name m e = rw e refl
+module _ (p : Layout) where
+  contact_nests : (neg : Bool) (name : List ℕ) → nests (contact_code p neg name) [] ≡ true
+  contact_nests true name = refl
+  contact_nests false name = refl
 
-coil_asleep : (p : Layout) (r : Reading) (mode : CoilMode) (name : List ℕ) (m : Moment) → all_run m.ifs ≡ false → run r (coil_code p mode name) m ≡ m
-coil_asleep p r mode.Plain name m e = rw e refl
-coil_asleep p r mode.Negated name m e = rw e refl
-coil_asleep p r mode.Set name m e = rw e refl
-coil_asleep p r mode.Reset name m e = rw e refl
+  coil_nests : (how : CoilMode) (name : List ℕ) → nests (coil_code p how name) [] ≡ true
+  coil_nests mode.Plain name = refl
+  coil_nests mode.Negated name = refl
+  coil_nests mode.Set name = refl
+  coil_nests mode.Reset name = refl
+
+  timer_nests : (how : TimerHow) (v : ℕ) (limit : ℤ) → nests (timer_code p how v limit) [] ≡ true
+  timer_nests Ton v limit = refl
+  timer_nests Tof v limit = refl
+  timer_nests Rto v limit = refl
+
+  counter_nests : (how : CounterHow) (v : ℕ) (max : ℤ) (k : ℕ) → nests (counter_code p how v max k) [] ≡ true
+  counter_nests Ctu v max k = refl
+  counter_nests Ctd v max k = refl
+  counter_nests Ctc v max k = refl
+
+  move_nests : (v : ℕ) (x : Operand) → nests (where_power p (move_op v (number_of p x))) [] ≡ true
+  move_nests v (Var name) = refl
+  move_nests v (Num n) = refl
+
+  math_nests : (how : MathHow) (v : ℕ) (x y : Operand) → nests (where_power p (math_op how v (number_of p x) (number_of p y))) [] ≡ true
+  math_nests Add v x y = refl
+  math_nests Sub v x y = refl
+  math_nests Mul v x y = refl
+  math_nests Div v x y = refl
+
+  compare_nests : (how : CompareHow) (x y : Operand) → nests (compare_code p how (number_of p x) (number_of p y)) [] ≡ true
+  compare_nests Equ x y = refl
+  compare_nests Neq x y = refl
+  compare_nests Grt x y = refl
+  compare_nests Geq x y = refl
+  compare_nests Les x y = refl
+  compare_nests Leq x y = refl
+
+  shift_nests : (name : List ℕ) (places k : ℕ) → nests (on_rise p k (moves p name places)) [] ≡ true
+  shift_nests name places k = nests_behind (Fi ∷ Fi ∷ Cpy (dest.B (memory_bit p k)) (source.B (power p)) ∷ []) (false ∷ false ∷ []) (moves p name places) [] (moves_nest p name places)
+
+  pub element_nests : (kind : LeafKind) (k : ℕ) → nests (element_code p kind k) [] ≡ true
+  element_nests (Contacts name neg) k = contact_nests neg name
+  element_nests (Coil name how) k = coil_nests how name
+  element_nests (Timer how name delay) k = timer_nests how (variable_of p name) (pos (period p.cycle delay))
+  element_nests (Counter how name max) k = counter_nests how (variable_of p name) max k
+  element_nests (Move dest src) k = move_nests (variable_of p dest) src
+  element_nests (Math how dest a b) k = math_nests how (variable_of p dest) a b
+  element_nests (Compare how a b) k = compare_nests how a b
+  element_nests (Shift name places) k = shift_nests name places k
+  element_nests _ k = refl
 
 pub element_asleep : (p : Layout) (r : Reading) (kind : LeafKind) (k : ℕ) (m : Moment) → all_run m.ifs ≡ false → run r (element_code p kind k) m ≡ m
-element_asleep p r (Contacts name neg) k m e = contact_asleep p r neg name m e
-element_asleep p r (Coil name mode) k m e = coil_asleep p r mode name m e
-element_asleep p r Osr k m e = rw e refl
-element_asleep p r Osf k m e = rw e refl
-element_asleep p r Open k m e = rw e refl
-element_asleep p r MasterRelay k m e = rw e refl
-element_asleep p r _ k m e = refl
+element_asleep p r kind k m e = asleep r (element_code p kind k) m (element_nests p kind k) e
 
-value_by : (p : Layout) (r : Reading) (s : Now) (t : Bits) (name : List ℕ) (x y : Bool) → is_input name ≡ x → is_output name ≡ y → (is_input name ≡ false → IsHeld p name) → Stands p s t → value_of r t (source_by x y p name) ≡ cond x (slice_index_or r.inputs (place_of p.inputs name) false) (s.kept.bit name)
+value_by : (p : Layout) (r : Reading) (s : Now) (t : Store) (name : List ℕ) (x y : Bool) → is_input name ≡ x → is_output name ≡ y → (is_input name ≡ false → IsHeld p name) → Stands p s t → value_of r t (source_by x y p name) ≡ cond x (slice_index_or r.inputs (place_of p.inputs name) false) (s.kept.bit name)
 value_by p r s t name true y e f h sh = refl
 value_by p r s t name false true e f h sh = sh.outputs name f (rw f at (h e))
 value_by p r s t name false false e f h sh = sh.relays name f (rw f at (h e))
 
 -- a contact reads what the name means
-pub source_value : (p : Layout) (r : Reading) (g : Seen) (s : Now) (t : Bits) (name : List ℕ) → (is_input name ≡ false → IsHeld p name) → Stands p s t → value_of r t (source_of p name) ≡ ladder.value_of (levels p g r) s name
+source_value : (p : Layout) (r : Reading) (g : Seen) (s : Now) (t : Store) (name : List ℕ) → (is_input name ≡ false → IsHeld p name) → Stands p s t → value_of r t (source_of p name) ≡ ladder.value_of (levels p g r) s name
 source_value p r g s t name h sh = value_by p r s t name (is_input name) (is_output name) refl refl h sh
 
--- the power is switched off
-cleared : (p : Layout) (d : ℕ) (m : Moment) (s : Now) (c : ℕ) → Stands p s m.bits → After p d m (record { ifs = m.ifs; bits = with m.bits (dest.B (power p)) false; count = c }) (record { now = s; output = false })
-cleared p d m s c sh = record {
-  ifs = refl;
-  shows = wire_write p s m.bits 0 false (λ h e. cc) sh;
-  power = same (power p) false _;
-  wires = λ j lo hi. other (power p) (wire p j) false _ (omega arith);
-}
+module _ (p : Layout) (r : Reading) (d : ℕ) (m : Moment) (s : Now) where
+  contact_done : (neg : Bool) (name : List ℕ) (b : Bool) → value_of r m.store (source_of p name) ≡ b → all_run m.ifs ≡ true → Stands p s m.store → After p d m (run r (contact_code p neg name) m) (record { now = s; output = m.store.bit (power p) && cond neg (not b) b })
+  contact_done true name b v on sh = cut_by p r (Ifs (source_of p name)) d m s b (record { opens = refl; writes_none = refl; runs = v }) on sh
+  contact_done false name b v on sh = rw not-not at (cut_by p r (Ifc (source_of p name)) d m s (not b) (record { opens = refl; writes_none = refl; runs = ap not v }) on sh)
 
--- nothing is done
-stayed : (p : Layout) (d : ℕ) (m : Moment) (s : Now) (c : ℕ) (x : Bool) → m.bits.bit (power p) ≡ x → Stands p s m.bits → After p d m (record { ifs = m.ifs; bits = m.bits; count = c }) (record { now = s; output = x })
-stayed p d m s c x is sh = record { ifs = refl; shows = sh; power = is; wires = λ j lo hi. refl }
+  coil_done : (how : CoilMode) (name : List ℕ) → IsHeld p name → all_run m.ifs ≡ true → Stands p s m.store → After p d m (run r (coil_code p how name) m) (record { now = coil how name s (m.store.bit (power p)); output = m.store.bit (power p) })
+  coil_done mode.Plain name h on sh = one_after p r (Cpy (dest_of p name) (source.B (power p))) d m _ refl on (name_wrote name (m.store.bit (power p)) h (nothing_wrote s m.store _ refl sh))
+  coil_done mode.Negated name h on sh = one_after p r (Not (dest_of p name) (source.B (power p))) d m _ refl on (name_wrote name (not (m.store.bit (power p))) h (nothing_wrote s m.store _ refl sh))
+  coil_done mode.Set name h on sh = where_done p r (Set (dest_of p name)) d m s (with_bit s name true) (m.store.bit (power p)) refl refl on sh (λ e. name_wrote name true h (nothing_wrote s m.store true e sh))
+  coil_done mode.Reset name h on sh = where_done p r (Clr (dest_of p name)) d m s (with_bit s name false) (m.store.bit (power p)) refl refl on sh (λ e. name_wrote name false h (nothing_wrote s m.store true e sh))
 
-contact_by : (p : Layout) (r : Reading) (neg : Bool) (name : List ℕ) (d : ℕ) (m : Moment) (s : Now) (b : Bool) → value_of r m.bits (source_of p name) ≡ b → all_run m.ifs ≡ true → Stands p s m.bits → After p d m (run r (contact_code p neg name) m) (record { now = s; output = m.bits.bit (power p) && cond neg (not b) b })
-contact_by p r true name d m s true v e sh = rw (e, v, and-false) (cleared p d m s _ sh)
-contact_by p r true name d m s false v e sh = rw (e, v, and-true) (stayed p d m s _ _ refl sh)
-contact_by p r false name d m s true v e sh = rw (e, v, and-true) (stayed p d m s _ _ refl sh)
-contact_by p r false name d m s false v e sh = rw (e, v, and-false) (cleared p d m s _ sh)
+  -- OSR and OSF, once the power is kept on the spare wire: a test of the memory, and the memory's write
+  edge : (t : Store) (k : ℕ) (x q b : Bool) → k < p.memories → t.bit (spare p) ≡ x → Wrote p m.store t (record { now = s; output = q }) → Wrote p m.store (with (cond b (with t (dest.B (power p)) false) t) (dest.B (memory_bit p k)) ((cond b (with t (dest.B (power p)) false) t).bit (spare p))) (record { now = with_memory s k x; output = q && not b })
+  edge t k x q true lt saved f = rw (other (power p) (spare p) false (t.bit (spare p)) (omega arith), saved) (output_is (q && false) (sym (and-false q)) (memory_wrote k x lt (power_wrote false f)))
+  edge t k x q false lt saved f = rw saved (output_is (q && true) (sym (and-true q)) (memory_wrote k x lt f))
 
-name_wire_by : (p : Layout) (t : Bits) (name : List ℕ) (v y : Bool) (j : ℕ) → is_output name ≡ y → IsHeld p name → (with t (dest_by y p name) v).bit (wire p j) ≡ t.bit (wire p j)
-name_wire_by p t name v true j e h = refl
-name_wire_by p t name v false j e h = other (place_of p.relays name) (wire p j) v _ (let lt = place_below p.relays name (rw e at h) in omega (arith, lt))
+  osr_done : (k : ℕ) → k < p.memories → all_run m.ifs ≡ true → Stands p s m.store → After p d m (run r (element_code p Osr k) m) (record { now = with_memory s k (m.store.bit (power p)); output = m.store.bit (power p) && not (s.kept.memory k) })
+  osr_done k lt on sh =
+      let x = m.store.bit (power p) in
+      let t = with m.store (dest.B (spare p)) x in
+      let kept : t.bit (memory_bit p k) ≡ s.kept.memory k = other (spare p) (memory_bit p k) x _ (omega arith) ∙ sh.memories k lt in
+      rw (on, kept) (after d m _ (edge t k x x (s.kept.memory k) lt (same (spare p) x _) (spare_wrote x (omega arith) (nothing_wrote s m.store x refl sh))))
 
--- a named bit is no wire
-name_wire : (p : Layout) (t : Bits) (name : List ℕ) (v : Bool) (j : ℕ) → IsHeld p name → (with t (dest_of p name) v).bit (wire p j) ≡ t.bit (wire p j)
-name_wire p t name v j h = name_wire_by p t name v (is_output name) j refl h
+  osf_done : (k : ℕ) → k < p.memories → all_run m.ifs ≡ true → Stands p s m.store → After p d m (run r (element_code p Osf k) m) (record { now = with_memory s k (m.store.bit (power p)); output = not (m.store.bit (power p)) && s.kept.memory k })
+  osf_done k lt on sh =
+      let x = m.store.bit (power p) in
+      let t0 = with m.store (dest.B (spare p)) x in
+      let unmoved : t0.bit (power p) ≡ x = other (spare p) (power p) x _ (omega arith) in
+      let t = with t0 (dest.B (power p)) (not x) in
+      let kept : t.bit (memory_bit p k) ≡ s.kept.memory k = other (power p) (memory_bit p k) (not x) _ (omega arith) ∙ other (spare p) (memory_bit p k) x _ (omega arith) ∙ sh.memories k lt in
+      let saved : t.bit (spare p) ≡ x = other (power p) (spare p) (not x) _ (omega arith) ∙ same (spare p) x _ in
+      subst (λ (o : Bool). After p d m (run r (element_code p Osf k) m) (record { now = with_memory s k x; output = not x && o })) (not-not (s.kept.memory k))
+      (rw (on, unmoved, kept) (after d m _ (edge t k x (not x) (not (s.kept.memory k)) lt saved (power_wrote (not x) (spare_wrote x (omega arith) (nothing_wrote s m.store x refl sh))))))
 
-named : (p : Layout) (d : ℕ) (m : Moment) (s : Now) (name : List ℕ) (v : Bool) (c : ℕ) (x : Bool) → m.bits.bit (power p) ≡ x → IsHeld p name → Stands p s m.bits → After p d m (record { ifs = m.ifs; bits = with m.bits (dest_of p name) v; count = c }) (record { now = with_bit s name v; output = x })
-named p d m s name v c x is h sh = record {
-  ifs = refl;
-  shows = name_write p s m.bits name v h sh;
-  power = name_wire p m.bits name v 0 h ∙ is;
-  wires = λ j lo hi. name_wire p m.bits name v j h;
-}
+  master_by : (b : Bool) → p.has_master ≡ true → m.store.bit (master p) ≡ b → all_run m.ifs ≡ true → Stands p s m.store → After p d m (run r (element_code p MasterRelay 0) m) (record { now = with_master s (cond b (m.store.bit (power p)) true); output = m.store.bit (power p) })
+  master_by true has v on sh = rw (on, v) (after d m _ (master_wrote (m.store.bit (power p)) has (nothing_wrote s m.store _ refl sh)))
+  master_by false has v on sh = rw (on, v) (after d m _ (master_wrote true has (nothing_wrote s m.store _ refl sh)))
 
-coil_by : (p : Layout) (r : Reading) (mode : CoilMode) (name : List ℕ) (d : ℕ) (m : Moment) (s : Now) (b : Bool) → m.bits.bit (power p) ≡ b → IsHeld p name → all_run m.ifs ≡ true → Stands p s m.bits → After p d m (run r (coil_code p mode name) m) (record { now = coil mode name s b; output = m.bits.bit (power p) })
-coil_by p r mode.Plain name d m s b v h e sh = rw (e, ← v) (named p d m s name (m.bits.bit (power p)) _ _ refl h sh)
-coil_by p r mode.Negated name d m s b v h e sh = rw (e, ← v) (named p d m s name (not (m.bits.bit (power p))) _ _ refl h sh)
-coil_by p r mode.Set name d m s true v h e sh = rw (e, v) (named p d m s name true _ true v h sh)
-coil_by p r mode.Set name d m s false v h e sh = rw (e, v) (stayed p d m s _ false v sh)
-coil_by p r mode.Reset name d m s true v h e sh = rw (e, v) (named p d m s name false _ true v h sh)
-coil_by p r mode.Reset name d m s false v h e sh = rw (e, v) (stayed p d m s _ false v sh)
+  none_done : Stands p s m.store → After p d m m (record { now = s; output = m.store.bit (power p) })
+  none_done sh = record { ifs = refl; shows = sh; power = refl; wires = λ j lo hi. refl }
 
--- the spare wire is not the master relay's
-spare_apart : (p : Layout) → p.has_master ≡ true → 1 + masters p ≢ 1
-spare_apart p h = let one : masters p ≡ 1 = ap (λ b. cond b 1 0) h in λ e. omega arith
+  math_done : (how : MathHow) (dest : List ℕ) (a b : Operand) → AllHeld p.variables (dest ∷ (operand_names a ++ operand_names b)) → all_run m.ifs ≡ true → Stands p s m.store → After p d m (run r (where_power p (math_op how (variable_of p dest) (number_of p a) (number_of p b))) m) (record { now = set_where (m.store.bit (power p)) s dest (computed how (operand s a) (operand s b)); output = m.store.bit (power p) })
+  math_done how dest a b h on sh =
+      let w = math_writes r m.store how (variable_of p dest) (number_of p a) (number_of p b) in
+      let e = operand_value p s m.store a (held_front p.variables (operand_names a) (operand_names b) h.1) sh in
+      let f = operand_value p s m.store b (held_back p.variables (operand_names a) (operand_names b) h.1) sh in
+      set_done p r (math_op how (variable_of p dest) (number_of p a) (number_of p b)) d m s dest (computed how (operand s a) (operand s b)) w.0 (rw (← e, ← f) w.1) h.0 on sh
 
--- OSR and OSF, after the power is kept in the spare bit: a test of the memory, and the memory's write
-edge : (p : Layout) (d : ℕ) (m : Moment) (s : Now) (t : Bits) (k : ℕ) (x q b : Bool) (c : ℕ) → k < p.memories → t.bit (spare p) ≡ x → t.bit (power p) ≡ q → ((j : ℕ) → outer_wires p ≤ j → t.bit (wire p j) ≡ m.bits.bit (wire p j)) → Stands p s t → After p d m (record { ifs = m.ifs; bits = with (cond b (with t (dest.B (power p)) false) t) (dest.B (memory_bit p k)) ((cond b (with t (dest.B (power p)) false) t).bit (spare p)); count = c }) (record { now = with_memory s k x; output = q && not b })
-edge p d m s t k x q true c lt saved pw ws sh = record {
-  ifs = refl;
-  shows = rw (other (power p) (spare p) false (t.bit (spare p)) (omega arith), saved) (memory_write p s (with t (dest.B (power p)) false) k x lt (wire_write p s t 0 false (λ h e. cc) sh));
-  power = other (memory_bit p k) (power p) _ _ (omega arith) ∙ same (power p) false _ ∙ sym (and-false q);
-  wires = λ j lo hi. other (memory_bit p k) (wire p j) _ _ (omega arith) ∙ other (power p) (wire p j) false _ (omega arith) ∙ ws j lo;
-}
-edge p d m s t k x q false c lt saved pw ws sh = record {
-  ifs = refl;
-  shows = rw saved (memory_write p s t k x lt sh);
-  power = other (memory_bit p k) (power p) _ _ (omega arith) ∙ pw ∙ sym (and-true q);
-  wires = λ j lo hi. other (memory_bit p k) (wire p j) _ _ (omega arith) ∙ ws j lo;
-}
+  move_done : (dest : List ℕ) (a : Operand) → AllHeld p.variables (dest ∷ operand_names a) → all_run m.ifs ≡ true → Stands p s m.store → After p d m (run r (where_power p (move_op (variable_of p dest) (number_of p a))) m) (record { now = set_where (m.store.bit (power p)) s dest (operand s a); output = m.store.bit (power p) })
+  move_done dest a h on sh =
+      let w = move_writes r m.store (variable_of p dest) (number_of p a) in
+      let e = operand_value p s m.store a h.1 sh in
+      set_done p r (move_op (variable_of p dest) (number_of p a)) d m s dest (operand s a) w.0 (rw (← e) w.1) h.0 on sh
 
-osr_awake : (p : Layout) (r : Reading) (u : Terms) (g : Seen) (d k : ℕ) (m : Moment) (s : Now) → k < p.memories → all_run m.ifs ≡ true → Stands p s m.bits → After p d m (run r (element_code p Osr k) m) (element u (levels p g r) Osr k s (m.bits.bit (power p)))
-osr_awake p r u g d k m s lt e sh =
-    let x = m.bits.bit (power p) in
-    let t = with m.bits (dest.B (spare p)) x in
-    let kept : cond (nat_eq (spare p) (memory_bit p k)) x (m.bits.bit (memory_bit p k)) ≡ s.kept.memory k = other (spare p) (memory_bit p k) x _ (omega arith) ∙ sh.memories k lt in
-    rw (e, kept) (edge p d m s t k x x (s.kept.memory k) _ lt (same (spare p) x _) (other (spare p) (power p) x _ (omega arith)) (λ j lo. other (spare p) (wire p j) x _ (omega arith)) (wire_write p s m.bits (1 + masters p) x (spare_apart p) sh))
-
-osf_awake : (p : Layout) (r : Reading) (u : Terms) (g : Seen) (d k : ℕ) (m : Moment) (s : Now) → k < p.memories → all_run m.ifs ≡ true → Stands p s m.bits → After p d m (run r (element_code p Osf k) m) (element u (levels p g r) Osf k s (m.bits.bit (power p)))
-osf_awake p r u g d k m s lt e sh =
-    let x = m.bits.bit (power p) in
-    let t0 = with m.bits (dest.B (spare p)) x in
-    let unmoved : cond (nat_eq (spare p) (power p)) x (m.bits.bit (power p)) ≡ x = other (spare p) (power p) x _ (omega arith) in
-    let t = with t0 (dest.B (power p)) (not x) in
-    let kept : cond (nat_eq (power p) (memory_bit p k)) (not x) (cond (nat_eq (spare p) (memory_bit p k)) x (m.bits.bit (memory_bit p k))) ≡ s.kept.memory k =
-    other (power p) (memory_bit p k) (not x) _ (omega arith) ∙ other (spare p) (memory_bit p k) x _ (omega arith) ∙ sh.memories k lt in
-    subst (λ (o : Bool). After p d m (run r (element_code p Osf k) m) (record { now = with_memory s k x; output = not x && o })) (not-not (s.kept.memory k))
-    (rw (e, unmoved, kept) (edge p d m s t k x (not x) (not (s.kept.memory k)) _ lt (other (power p) (spare p) (not x) _ (omega arith) ∙ same (spare p) x _) (same (power p) (not x) _)
-    (λ j lo. other (power p) (wire p j) (not x) _ (omega arith) ∙ other (spare p) (wire p j) x _ (omega arith))
-    (wire_write p s t0 0 (not x) (λ h e. cc) (wire_write p s m.bits (1 + masters p) x (spare_apart p) sh))))
-
-mastered : (p : Layout) (d : ℕ) (m : Moment) (s : Now) (v : Bool) (c : ℕ) → p.has_master ≡ true → Stands p s m.bits → After p d m (record { ifs = m.ifs; bits = with m.bits (dest.B (master p)) v; count = c }) (record { now = with_master s v; output = m.bits.bit (power p) })
-mastered p d m s v c has sh =
-    let one : masters p ≡ 1 = ap (λ b. cond b 1 0) has in
-    record {
-      ifs = refl;
-      shows = master_write p s m.bits v has sh;
-      power = other (master p) (power p) v _ (omega arith);
-      wires = λ j lo hi. other (master p) (wire p j) v _ (omega arith);
-    }
-
-master_by : (p : Layout) (r : Reading) (u : Terms) (g : Seen) (d k : ℕ) (m : Moment) (s : Now) (b : Bool) → p.has_master ≡ true → m.bits.bit (master p) ≡ b → s.master ≡ b → all_run m.ifs ≡ true → Stands p s m.bits → After p d m (run r (element_code p MasterRelay k) m) (element u (levels p g r) MasterRelay k s (m.bits.bit (power p)))
-master_by p r u g d k m s true has v w e sh = rw (e, v, w) (mastered p d m s (m.bits.bit (power p)) _ has sh)
-master_by p r u g d k m s false has v w e sh = rw (e, v, w) (mastered p d m s true _ has sh)
-
-pub element_awake : (p : Layout) (r : Reading) (u : Terms) (g : Seen) (kind : LeafKind) (d k : ℕ) (m : Moment) (s : Now) → IsNamed p kind → k + memories kind ≤ p.memories → all_run m.ifs ≡ true → Stands p s m.bits → After p d m (run r (element_code p kind k) m) (element u (levels p g r) kind k s (m.bits.bit (power p)))
-element_awake p r u g (Contacts name neg) d k m s h lt e sh = contact_by p r neg name d m s (ladder.value_of (levels p g r) s name) (source_value p r g s m.bits name (λ e. rw e at h) sh) e sh
-element_awake p r u g (Coil name mode) d k m s h lt e sh = coil_by p r mode name d m s (m.bits.bit (power p)) refl h e sh
-element_awake p r u g Osr d k m s h lt e sh = osr_awake p r u g d k m s (omega arith) e sh
-element_awake p r u g Osf d k m s h lt e sh = osf_awake p r u g d k m s (omega arith) e sh
-element_awake p r u g Open d k m s h lt e sh = rw e (cleared p d m s _ sh)
-element_awake p r u g MasterRelay d k m s h lt e sh = master_by p r u g d k m s s.master h (sh.master h) refl e sh
-element_awake p r u g Short d k m s h lt e sh = stayed p d m s _ _ refl sh
-element_awake p r u g Placeholder d k m s h lt e sh = stayed p d m s _ _ refl sh
-element_awake p r u g (Comment text) d k m s h lt e sh = stayed p d m s _ _ refl sh
-element_awake p r u g _ d k m s h lt e sh = absurd h
+pub element_awake : (p : Layout) (r : Reading) (g : Seen) (kind : LeafKind) (d k : ℕ) (m : Moment) (s : Now) → IsNamed p kind → k + memories kind ≤ p.memories → all_run m.ifs ≡ true → Stands p s m.store → After p d m (run r (element_code p kind k) m) (element (terms_of p) (levels p g r) kind k s (m.store.bit (power p)))
+element_awake p r g (Contacts name neg) d k m s h lt on sh = contact_done p r d m s neg name (ladder.value_of (levels p g r) s name) (source_value p r g s m.store name (λ e. rw e at h.place) sh) on sh
+element_awake p r g (Coil name how) d k m s h lt on sh = coil_done p r d m s how name h.place on sh
+element_awake p r g Osr d k m s h lt on sh = osr_done p r d m s k (omega arith) on sh
+element_awake p r g Osf d k m s h lt on sh = osf_done p r d m s k (omega arith) on sh
+element_awake p r g Short d k m s h lt on sh = none_done p r d m s sh
+element_awake p r g Open d k m s h lt on sh = one_after p r (Clr (dest.B (power p))) d m (record { now = s; output = false }) refl on (power_wrote false (nothing_wrote s m.store _ refl sh))
+element_awake p r g MasterRelay d k m s h lt on sh = master_by p r d m s s.master h.place (sh.master h.place) on sh
+element_awake p r g Placeholder d k m s h lt on sh = none_done p r d m s sh
+element_awake p r g (Comment text) d k m s h lt on sh = none_done p r d m s sh
+element_awake p r g (Timer how name delay) d k m s h lt on sh = timer_done p r d m s name (pos (period p.cycle delay)) how h.variables.0 on sh
+element_awake p r g (Counter how name max) d k m s h lt on sh = counter_done p r how k d m s name max (omega arith) h.variables.0 on sh
+element_awake p r g (Reset name) d k m s h lt on sh = set_done p r (Lit (variable_of p name) (pos 0)) d m s name (pos 0) refl refl h.variables.0 on sh
+element_awake p r g (Move dest src) d k m s h lt on sh = move_done p r d m s dest src h.variables on sh
+element_awake p r g (Math how dest a b) d k m s h lt on sh = math_done p r d m s how dest a b h.variables on sh
+element_awake p r g (Compare how a b) d k m s h lt on sh =
+    let e = operand_value p s m.store a (held_front p.variables (operand_names a) (operand_names b) h.variables) sh in
+    let f = operand_value p s m.store b (held_back p.variables (operand_names a) (operand_names b) h.variables) sh in
+    compare_done p r d m s how (number_of p a) (number_of p b) (operand s a) (operand s b) e f on sh
+element_awake p r g (Shift name places) d k m s h lt on sh = shift_done p r k d m s name places (omega arith) h.variables on sh
+element_awake p r g (Table dest index as_text values) d k m s h lt on sh = table_done p r d m s dest index values h.variables.0 h.variables.1 on sh
+element_awake p r g (ReadAdc name) d k m s h lt on sh = set_done p r (Adc (variable_of p name) (place_of p.analog name)) d m s name ((levels p g r).analog name) refl refl h.variables.0 on sh
+element_awake p r g (SetPwm name hz) d k m s h lt on sh = pwm_done p r d m s name hz h.variables.0 on sh
+element_awake p r g (Recv name) d k m s h lt on sh = receive_done p r d m s name h.variables.0 on sh
+element_awake p r g (Send name) d k m s h lt on sh = send_done p r d m s name h.variables.0 on sh
+element_awake p r g (Persist name) d k m s h lt on sh = persist_done p r name d h.place h.variables.0 m s on sh
+element_awake p r g (Linear dest index points) d k m s h lt on sh = none_done p r d m s sh
+element_awake p r g (Formatted name text) d k m s h lt on sh = none_done p r d m s sh

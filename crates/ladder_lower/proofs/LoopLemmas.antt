@@ -1,14 +1,20 @@
--- The steps of the loops over nodes.
-use Rattle.std.proofs.Common.{◌≡◌, ◌≢◌, ℕ, zero, suc, ◌+◌, ◌-◌, take, ◌<◌, ◌≤◌, max, Bool, false, nat_eq, List, [], ◌∷◌, ◌++◌, length, get_or, drop, map, refl, sym, ap, ◌∙◌, subst, arith, append_assoc, add-one, drop-cons}
+-- The steps of the loops over nodes, rungs and the places of a shift register.
+use Rattle.std.proofs.Common.{◌≡◌, ◌≢◌, ℕ, zero, suc, ◌+◌, ◌-◌, take, ◌<◌, ◌≤◌, max, Bool, true, false, nat_eq, List, [], ◌∷◌, ◌++◌, length, get_or, drop, map, refl, sym, ap, ◌∙◌, subst, arith, append_assoc, add-one, drop-cons}
 use Rattle.std.proofs.Math.Nat.{le-max_left}
 use Rattle.std.proofs.lemmas.Bool.Decides.{nat_tests}
+use Rattle.ladder_tree.specs.Leaves.{leaves, leaves_in, all_leaves}
 use Rattle.ladder_tree.specs.declared.project.Node.{Node}
 use Rattle.ladder_tree.specs.declared.project.Rung.{Rung}
+use Rattle.std.specs.Fmt.{decimal}
+use Rattle.int_code.specs.declared.op.IntOp.TheVariants.{Mov}
 use Rattle.int_code.specs.declared.op.IntOp.{IntOp}
+use Rattle.ladder_lower.specs.ElementCode.{moves}
+use Rattle.ladder_lower.specs.Fit.{all_fit}
 use Rattle.ladder_lower.specs.Nesting.{nesting, nesting_in, nesting_of_parallel, nesting_of_all}
 use Rattle.ladder_lower.specs.NodeCode.{Piece, rung_start, rungs_code, memories_of, ends, join, piece, nodes_piece, others_of, fork_code, parallel_of}
-use Rattle.ladder_lower.specs.Wires.{Fits}
+use Rattle.ladder_lower.specs.Wires.{Fits, variable_of}
 use Rattle.ladder_lower.specs.declared.layout.Layout.{Layout}
+use Rattle.ladder_lower.proofs.LeafLemmas.{fit_front, fit_back}
 use Rattle.ladder_lower.proofs.NodeLemmas.{again, fork, keep}
 
 at_front : (ns : List Node) (i : ℕ) (n : Node) → i < length ns → n ≡ get_or ns i n → drop i ns ≡ n ∷ drop (i + 1) ns
@@ -19,8 +25,13 @@ nesting_at [] i n lt is = absurd (omega arith)
 nesting_at (x ∷ xs) zero n lt is = subst (λ (y : Node). nesting y ≤ nesting_in (x ∷ xs)) (sym is) (le-max_left (nesting x) (nesting_in xs))
 nesting_at (x ∷ xs) (suc i) n lt is = let h = nesting_at xs i n (omega arith) is in omega (arith, h)
 
+pub fit_at : (cycle : ℕ) (ns : List Node) (i : ℕ) (n : Node) → i < length ns → n ≡ get_or ns i n → all_fit cycle (leaves_in ns) ≡ true → all_fit cycle (leaves n) ≡ true
+fit_at cycle [] i n lt is fit = absurd (omega arith)
+fit_at cycle (x ∷ xs) zero n lt is fit = subst (λ (y : Node). all_fit cycle (leaves y) ≡ true) (sym is) (fit_front cycle (leaves x) (leaves_in xs) fit)
+fit_at cycle (x ∷ xs) (suc i) n lt is fit = fit_at cycle xs i n (omega arith) is (fit_back cycle (leaves x) (leaves_in xs) fit)
+
 pub fits_less : (p : Layout) (d e : ℕ) → e ≤ d → Fits p d → Fits p e
-fits_less p d e le f = let b = f.bits in record { bits = omega arith; inputs = f.inputs; outputs = f.outputs }
+fits_less p d e le f = let b = f.bits in record { bits = omega arith; inputs = f.inputs; outputs = f.outputs; variables = f.variables; analog = f.analog }
 
 pub series_step : (p : Layout) (ns : List Node) (i : ℕ) (n : Node) (d k : ℕ) (ops all : List IntOp) → i < length ns → n ≡ get_or ns i n → ops ++ (nodes_piece p (drop i ns)).code d k ≡ all → (ops ++ (piece p n).code d k) ++ (nodes_piece p (drop (i + 1) ns)).code d (k + (piece p n).memories) ≡ all
 series_step p ns i n d k ops all lt is h = append_assoc ops _ _ ∙ rw (at_front ns i n lt is) at h
@@ -95,8 +106,22 @@ rung_nesting [] i g lt is = absurd (omega arith)
 rung_nesting (x ∷ xs) zero g lt is = subst (λ (y : Rung). nesting_in y.nodes ≤ nesting_of_all (x ∷ xs)) (sym is) (le-max_left (nesting_in x.nodes) (nesting_of_all xs))
 rung_nesting (x ∷ xs) (suc i) g lt is = let h = rung_nesting xs i g (omega arith) is in omega (arith, h)
 
+pub rung_fit : (cycle : ℕ) (gs : List Rung) (i : ℕ) (g : Rung) → i < length gs → g ≡ get_or gs i g → all_fit cycle (all_leaves gs) ≡ true → all_fit cycle (leaves_in g.nodes) ≡ true
+rung_fit cycle [] i g lt is fit = absurd (omega arith)
+rung_fit cycle (x ∷ xs) zero g lt is fit = subst (λ (y : Rung). all_fit cycle (leaves_in y.nodes) ≡ true) (sym is) (fit_front cycle (leaves_in x.nodes) (all_leaves xs) fit)
+rung_fit cycle (x ∷ xs) (suc i) g lt is fit = rung_fit cycle xs i g (omega arith) is (fit_back cycle (leaves_in x.nodes) (all_leaves xs) fit)
+
 pub rungs_step : (p : Layout) (gs : List Rung) (i : ℕ) (g : Rung) (k : ℕ) (ops all : List IntOp) → i < length gs → g ≡ get_or gs i g → ops ++ rungs_code p (drop i gs) k ≡ all → ((ops ++ rung_start p ∷ []) ++ (nodes_piece p g.nodes).code 0 k) ++ rungs_code p (drop (i + 1) gs) (k + (nodes_piece p g.nodes).memories) ≡ all
 rungs_step p gs i g k ops all lt is h = simp append_assoc (rw (rung_front gs i g lt is) at h)
 
 pub rungs_count : (p : Layout) (gs : List Rung) (i : ℕ) (g : Rung) (k all : ℕ) → i < length gs → g ≡ get_or gs i g → k + memories_of p (drop i gs) ≡ all → k + (nodes_piece p g.nodes).memories + memories_of p (drop (i + 1) gs) ≡ all
 rungs_count p gs i g k all lt is h = let e = rw (rung_front gs i g lt is) at h in omega (arith, e)
+
+-- one more move of a shift register
+pub moves_step : (p : Layout) (name : List ℕ) (place : ℕ) (ops all : List IntOp) → 1 < place → ops ++ moves p name place ≡ all → (ops ++ Mov (variable_of p (name ++ decimal (place - 1))) (variable_of p (name ++ decimal (place - 1 - 1))) ∷ []) ++ moves p name (place - 1) ≡ all
+moves_step p name zero ops all lt h = absurd (omega arith)
+moves_step p name (suc zero) ops all lt h = absurd (omega arith)
+moves_step p name (suc (suc k)) ops all lt h =
+    let one : suc (suc k) - 1 ≡ suc k = omega arith in
+    let two : suc k - 1 ≡ k = omega arith in
+    rw (one, two) (append_assoc ops _ _ ∙ h)

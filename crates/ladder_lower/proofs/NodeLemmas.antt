@@ -7,7 +7,6 @@ use Rattle.ladder_tree.specs.declared.element.Leaf as leaf
 use Rattle.ladder_tree.specs.declared.project.Node.TheOpen.{Node-F}
 use Rattle.ladder_tree.specs.declared.project.Node.{Node}
 use Rattle.ladder_meaning.specs.Device.{Went}
-use Rattle.ladder_meaning.specs.Element.{Terms}
 use Rattle.ladder_meaning.specs.Node.{Part, series, parallel, node_step, node, nodes}
 use Rattle.ladder_meaning.specs.State.{Seen, Now}
 use Rattle.ladder_meaning.specs.declared.reading.Reading.{Reading}
@@ -19,24 +18,13 @@ use Rattle.int_code.specs.declared.op.IntOp.{IntOp}
 use Rattle.ladder_lower.specs.NodeCode.{Piece, series_code, others_code, join, fork_code, parallel_code, piece_step, piece, nodes_piece}
 use Rattle.ladder_lower.specs.Wires.{power, wire, masters, outer_wires, wires, in_wire, or_wire}
 use Rattle.ladder_lower.specs.declared.layout.Layout.{Layout}
+use Rattle.ladder_lower.proofs.AfterLemmas.{run-append, after_both}
 use Rattle.ladder_lower.proofs.ElementLemmas.{element_asleep, element_awake}
 use Rattle.ladder_tree.proofs.FoldLemmas.{fold-Leaf, fold-Series, fold-Parallel}
 use Rattle.ladder_lower.proofs.LeafLemmas.{leaves-Leaf, leaves-Series, leaves-Parallel, named_front, named_back}
-use Rattle.ladder_lower.proofs.Lowers.{After, Lowers, levels}
+use Rattle.ladder_lower.proofs.Lowers.{After, Lowers, levels, terms_of}
 use Rattle.ladder_lower.proofs.Stands.{Stands, AllNamed, IsNamed}
 use Rattle.ladder_lower.proofs.WriteLemmas.{wire_write, same, other}
-
-pub run-append : (r : Reading) (a b : List IntOp) (m : Moment) → run r (a ++ b) m ≡ run r b (run r a m)
-run-append r [] b m = refl
-run-append r (op ∷ a) b m = run-append r a b (step r op m)
-
-after_both : (p : Layout) (d : ℕ) (m l n : Moment) (w v : Went) → After p d m l w → After p d l n v → After p d m n v
-after_both p d m l n w v f g = record {
-  ifs = g.ifs ∙ f.ifs;
-  shows = g.shows;
-  power = g.power;
-  wires = λ j lo hi. g.wires j lo hi ∙ f.wires j lo hi;
-}
 
 none_lowers : (p : Layout) (r : Reading) → Lowers p r (series []) (series_code [])
 none_lowers p r = record {
@@ -63,25 +51,25 @@ two_lower p r a b c e f g = record {
       let first = f.awake d k m s (omega arith) yes sh in
       let l = run r (c.code d k) m in
       let awake : all_run l.ifs ≡ true = ap all_run first.ifs ∙ yes in
-      let second = g.awake d (k + a.memories) l (a.run k s (m.bits.bit (power p))).now (omega arith) awake first.shows in
+      let second = g.awake d (k + a.memories) l (a.run k s (m.store.bit (power p))).now (omega arith) awake first.shows in
       rw (run-append r (c.code d k) (e.code d (k + c.memories)) m, f.memories) (after_both p d m l _ _ _ first (rw first.power at second));
 }
 
-module _ (p : Layout) (r : Reading) (u : Terms) (g : Seen) where
+module _ (p : Layout) (r : Reading) (g : Seen) where
   abbrev NodeLowers : Node → Type 0
-  NodeLowers n = Lowers p r (node u (levels p g r) n) (piece p n)
+  NodeLowers n = Lowers p r (node (terms_of p) (levels p g r) n) (piece p n)
 
-  pub series_lower : (ns : List Node) → Each NodeLowers ns → Lowers p r (series (map (node u (levels p g r)) ns)) (series_code (map (piece p) ns))
+  pub series_lower : (ns : List Node) → Each NodeLowers ns → Lowers p r (series (map (node (terms_of p) (levels p g r)) ns)) (series_code (map (piece p) ns))
   series_lower [] h = none_lowers p r
   series_lower (n ∷ ns) h = two_lower p r _ _ _ _ h.0 (series_lower ns h.1)
 
 -- A PARALLEL inside d others between its branches: x is its input, and acc the OR of the branches so far.
 record Forked (p : Layout) (d : ℕ) (m l : Moment) (s : Now) (x acc : Bool) : Type 0 where
   ifs : l.ifs ≡ m.ifs
-  shows : Stands p s l.bits
-  input : l.bits.bit (in_wire p d) ≡ x
-  so_far : l.bits.bit (or_wire p d) ≡ acc
-  wires : (j : ℕ) → outer_wires p ≤ j → j < wires p d → l.bits.bit (wire p j) ≡ m.bits.bit (wire p j)
+  shows : Stands p s l.store
+  input : l.store.bit (in_wire p d) ≡ x
+  so_far : l.store.bit (or_wire p d) ≡ acc
+  wires : (j : ℕ) → outer_wires p ≤ j → j < wires p d → l.store.bit (wire p j) ≡ m.store.bit (wire p j)
 
 -- the wires of PARALLELs are not the master relay's
 inner_apart : (p : Layout) (j : ℕ) → outer_wires p ≤ j → p.has_master ≡ true → j ≢ 1
@@ -112,37 +100,37 @@ join_asleep false p r d m e = rw e refl
 -- before a branch, which stands one deeper
 record Begun (p : Layout) (d : ℕ) (m l : Moment) (s : Now) (x : Bool) : Type 0 where
   ifs : l.ifs ≡ m.ifs
-  shows : Stands p s l.bits
-  power : l.bits.bit (power p) ≡ x
-  input : l.bits.bit (in_wire p d) ≡ x
-  so_far : l.bits.bit (or_wire p d) ≡ m.bits.bit (or_wire p d)
-  wires : (j : ℕ) → outer_wires p ≤ j → j < wires p d → l.bits.bit (wire p j) ≡ m.bits.bit (wire p j)
+  shows : Stands p s l.store
+  power : l.store.bit (power p) ≡ x
+  input : l.store.bit (in_wire p d) ≡ x
+  so_far : l.store.bit (or_wire p d) ≡ m.store.bit (or_wire p d)
+  wires : (j : ℕ) → outer_wires p ≤ j → j < wires p d → l.store.bit (wire p j) ≡ m.store.bit (wire p j)
 
-forked : (p : Layout) (r : Reading) (d : ℕ) (m : Moment) (s : Now) → all_run m.ifs ≡ true → Stands p s m.bits → Begun p d m (step r (fork p d) m) s (m.bits.bit (power p))
+forked : (p : Layout) (r : Reading) (d : ℕ) (m : Moment) (s : Now) → all_run m.ifs ≡ true → Stands p s m.store → Begun p d m (step r (fork p d) m) s (m.store.bit (power p))
 forked p r d m s on sh =
-    let x = m.bits.bit (power p) in
+    let x = m.store.bit (power p) in
     rw on (record {
       ifs = refl;
-      shows = wire_write p s m.bits (wires p d) x (inner_apart p (wires p d) (omega arith)) sh;
+      shows = wire_write p s m.store (wires p d) x (inner_apart p (wires p d) (omega arith)) sh;
       power = other (in_wire p d) (power p) x _ (omega arith);
       input = same (in_wire p d) x _;
       so_far = other (in_wire p d) (or_wire p d) x _ (omega arith);
       wires = λ j lo hi. other (in_wire p d) (wire p j) x _ (omega arith);
     })
 
-kept : (p : Layout) (r : Reading) (d : ℕ) (m : Moment) (s : Now) (x acc : Bool) → m.bits.bit (in_wire p d) ≡ x → m.bits.bit (power p) ≡ acc → all_run m.ifs ≡ true → Stands p s m.bits → Forked p d m (step r (keep p d) m) s x acc
+kept : (p : Layout) (r : Reading) (d : ℕ) (m : Moment) (s : Now) (x acc : Bool) → m.store.bit (in_wire p d) ≡ x → m.store.bit (power p) ≡ acc → all_run m.ifs ≡ true → Stands p s m.store → Forked p d m (step r (keep p d) m) s x acc
 kept p r d m s x acc i v on sh = rw (on, v) (record {
   ifs = refl;
-  shows = wire_write p s m.bits (wires p d + 1) acc (inner_apart p (wires p d + 1) (omega arith)) sh;
+  shows = wire_write p s m.store (wires p d + 1) acc (inner_apart p (wires p d + 1) (omega arith)) sh;
   input = other (or_wire p d) (in_wire p d) acc _ (omega arith) ∙ i;
   so_far = same (or_wire p d) acc _;
   wires = λ j lo hi. other (or_wire p d) (wire p j) acc _ (omega arith);
 })
 
-begun : (p : Layout) (r : Reading) (d : ℕ) (m : Moment) (s : Now) (x : Bool) → m.bits.bit (in_wire p d) ≡ x → all_run m.ifs ≡ true → Stands p s m.bits → Begun p d m (step r (again p d) m) s x
+begun : (p : Layout) (r : Reading) (d : ℕ) (m : Moment) (s : Now) (x : Bool) → m.store.bit (in_wire p d) ≡ x → all_run m.ifs ≡ true → Stands p s m.store → Begun p d m (step r (again p d) m) s x
 begun p r d m s x i on sh = rw (on, i) (record {
   ifs = refl;
-  shows = wire_write p s m.bits 0 x (λ h e. cc) sh;
+  shows = wire_write p s m.store 0 x (λ h e. cc) sh;
   power = same (power p) x _;
   input = other (power p) (in_wire p d) x _ (omega arith) ∙ i;
   so_far = other (power p) (or_wire p d) x _ (omega arith);
@@ -150,10 +138,10 @@ begun p r d m s x i on sh = rw (on, i) (record {
 })
 
 -- behind a branch that is not the last
-joined : (p : Layout) (r : Reading) (d : ℕ) (m : Moment) (s : Now) (x acc b : Bool) → m.bits.bit (power p) ≡ b → m.bits.bit (in_wire p d) ≡ x → m.bits.bit (or_wire p d) ≡ acc → all_run m.ifs ≡ true → Stands p s m.bits → Forked p d m (run r (join false p d) m) s x (acc || b)
+joined : (p : Layout) (r : Reading) (d : ℕ) (m : Moment) (s : Now) (x acc b : Bool) → m.store.bit (power p) ≡ b → m.store.bit (in_wire p d) ≡ x → m.store.bit (or_wire p d) ≡ acc → all_run m.ifs ≡ true → Stands p s m.store → Forked p d m (run r (join false p d) m) s x (acc || b)
 joined p r d m s x acc true v i o on sh = rw (on, v) (record {
   ifs = refl;
-  shows = wire_write p s m.bits (wires p d + 1) true (inner_apart p (wires p d + 1) (omega arith)) sh;
+  shows = wire_write p s m.store (wires p d + 1) true (inner_apart p (wires p d + 1) (omega arith)) sh;
   input = other (or_wire p d) (in_wire p d) true _ (omega arith) ∙ i;
   so_far = same (or_wire p d) true _ ∙ sym (or-true acc);
   wires = λ j lo hi. other (or_wire p d) (wire p j) true _ (omega arith);
@@ -167,10 +155,10 @@ joined p r d m s x acc false v i o on sh = rw (on, v) (record {
 })
 
 -- behind the last branch
-closed : (p : Layout) (r : Reading) (d : ℕ) (m : Moment) (s : Now) (acc b : Bool) → m.bits.bit (or_wire p d) ≡ acc → m.bits.bit (power p) ≡ b → all_run m.ifs ≡ true → Stands p s m.bits → After p d m (run r (join true p d) m) (record { now = s; output = acc || b })
+closed : (p : Layout) (r : Reading) (d : ℕ) (m : Moment) (s : Now) (acc b : Bool) → m.store.bit (or_wire p d) ≡ acc → m.store.bit (power p) ≡ b → all_run m.ifs ≡ true → Stands p s m.store → After p d m (run r (join true p d) m) (record { now = s; output = acc || b })
 closed p r d m s true b o v on sh = rw (on, o) (record {
   ifs = refl;
-  shows = wire_write p s m.bits 0 true (λ h e. cc) sh;
+  shows = wire_write p s m.store 0 true (λ h e. cc) sh;
   power = same (power p) true _;
   wires = λ j lo hi. other (power p) (wire p j) true _ (omega arith);
 })
@@ -183,7 +171,7 @@ OthersAfter p d m l acc w = After p d m l (record { now = w.now; output = acc ||
 record OthersLower (p : Layout) (r : Reading) (a : Part) (c : Piece) : Type 0 where
   memories : c.memories ≡ a.memories
   asleep : (d k : ℕ) (m : Moment) → all_run m.ifs ≡ false → run r (c.code d k) m ≡ m
-  awake : (d k : ℕ) (m : Moment) (s : Now) (x acc : Bool) → k + a.memories ≤ p.memories → all_run m.ifs ≡ true → Stands p s m.bits → m.bits.bit (in_wire p d) ≡ x → m.bits.bit (or_wire p d) ≡ acc → OthersAfter p d m (run r (c.code d k) m) acc (a.run k s x)
+  awake : (d k : ℕ) (m : Moment) (s : Now) (x acc : Bool) → k + a.memories ≤ p.memories → all_run m.ifs ≡ true → Stands p s m.store → m.store.bit (in_wire p d) ≡ x → m.store.bit (or_wire p d) ≡ acc → OthersAfter p d m (run r (c.code d k) m) acc (a.run k s x)
 
 abbrev or_part : Part → Part → Part
 or_part a b = record {
@@ -218,11 +206,11 @@ other_asleep last p r c e f g d k m off =
 record Branched (p : Layout) (d : ℕ) (m l : Moment) (x : Bool) (w : Went) : Type 0 where
   ifs : l.ifs ≡ m.ifs
   on : all_run l.ifs ≡ true
-  shows : Stands p w.now l.bits
-  power : l.bits.bit (power p) ≡ w.output
-  input : l.bits.bit (in_wire p d) ≡ x
-  so_far : l.bits.bit (or_wire p d) ≡ m.bits.bit (or_wire p d)
-  wires : (j : ℕ) → outer_wires p ≤ j → j < wires p d → l.bits.bit (wire p j) ≡ m.bits.bit (wire p j)
+  shows : Stands p w.now l.store
+  power : l.store.bit (power p) ≡ w.output
+  input : l.store.bit (in_wire p d) ≡ x
+  so_far : l.store.bit (or_wire p d) ≡ m.store.bit (or_wire p d)
+  wires : (j : ℕ) → outer_wires p ≤ j → j < wires p d → l.store.bit (wire p j) ≡ m.store.bit (wire p j)
 
 branched : (p : Layout) (r : Reading) (a : Part) (c : Piece) → Lowers p r a c → (d k : ℕ) (m l : Moment) (s : Now) (x : Bool) → k + a.memories ≤ p.memories → all_run m.ifs ≡ true → Begun p d m l s x → Branched p d m (run r (c.code (d + 1) k) l) x (a.run k s x)
 branched p r a c f d k m l s x lt on st =
@@ -289,7 +277,7 @@ fork_lowers p r a b c e f g = record {
       ∙ ap rest (keep_asleep p r d m off)
       ∙ g.asleep d (k + c.memories) m off;
   awake = λ d k m s lt on sh.
-      let x = m.bits.bit (power p) in
+      let x = m.store.bit (power p) in
       let w = a.run k s x in
       let br = branched p r a c f d k m (step r (fork p d) m) s x (omega arith) on (forked p r d m s on sh) in
       let l = run r (c.code (d + 1) k) (step r (fork p d) m) in
@@ -312,7 +300,7 @@ off_lowers p r = record {
   asleep = λ d k m off. rw off refl;
   awake = λ d k m s lt on sh. rw on (record {
     ifs = refl;
-    shows = wire_write p s m.bits 0 false (λ h e. cc) sh;
+    shows = wire_write p s m.store 0 false (λ h e. cc) sh;
     power = same (power p) false _;
     wires = λ j lo hi. other (power p) (wire p j) false _ (omega arith);
   });
@@ -331,40 +319,40 @@ only_lowers p r a c f = record {
   };
 }
 
-module _ (p : Layout) (r : Reading) (u : Terms) (g : Seen) where
-  others_lower : (n : Node) (ns : List Node) → NodeLowers p r u g n → Each (NodeLowers p r u g) ns → OthersLower p r (parallel (map (node u (levels p g r)) (n ∷ ns))) (others_code p (map (piece p) (n ∷ ns)))
+module _ (p : Layout) (r : Reading) (g : Seen) where
+  others_lower : (n : Node) (ns : List Node) → NodeLowers p r g n → Each (NodeLowers p r g) ns → OthersLower p r (parallel (map (node (terms_of p) (levels p g r)) (n ∷ ns))) (others_code p (map (piece p) (n ∷ ns)))
   others_lower n [] f h = last_lowers p r _ _ f
   others_lower n (o ∷ ns) f h = middle_lowers p r _ _ _ _ f (others_lower o ns h.0 h.1)
 
-  pub parallel_lower : (ns : List Node) → Each (NodeLowers p r u g) ns → Lowers p r (parallel (map (node u (levels p g r)) ns)) (parallel_code p (map (piece p) ns))
+  pub parallel_lower : (ns : List Node) → Each (NodeLowers p r g) ns → Lowers p r (parallel (map (node (terms_of p) (levels p g r)) ns)) (parallel_code p (map (piece p) ns))
   parallel_lower [] h = off_lowers p r
   parallel_lower (n ∷ []) h = only_lowers p r _ _ h.0
   parallel_lower (n ∷ o ∷ ns) h = fork_lowers p r _ _ _ _ h.0 (others_lower o ns h.1.0 h.1.1)
 
-  leaf_lowers : (l : leaf.Leaf) → IsNamed p l.kind → Lowers p r (node_step u (levels p g r) (Node-F.Leaf l)) (piece_step p (Node-F.Leaf l))
+  leaf_lowers : (l : leaf.Leaf) → IsNamed p l.kind → Lowers p r (node_step (terms_of p) (levels p g r) (Node-F.Leaf l)) (piece_step p (Node-F.Leaf l))
   leaf_lowers l h = record {
     memories = refl;
     asleep = λ d k m off. element_asleep p r l.kind k m off;
-    awake = λ d k m s lt on sh. element_awake p r u g l.kind d k m s h lt on sh;
+    awake = λ d k m s lt on sh. element_awake p r g l.kind d k m s h lt on sh;
   }
 
   abbrev NamedLowers : Node → Type 0
-  NamedLowers n = AllNamed p (leaves n) → NodeLowers p r u g n
+  NamedLowers n = AllNamed p (leaves n) → NodeLowers p r g n
 
-  each_lowers : (ns : List Node) → Each NamedLowers ns → AllNamed p (leaves_in ns) → Each (NodeLowers p r u g) ns
+  each_lowers : (ns : List Node) → Each NamedLowers ns → AllNamed p (leaves_in ns) → Each (NodeLowers p r g) ns
   each_lowers [] h all = tt
   each_lowers (n ∷ ns) h all = (h.0 (named_front p (leaves n) (leaves_in ns) all), each_lowers ns h.1 (named_back p (leaves n) (leaves_in ns) all))
 
   -- whatever the tree
-  pub node_lowers : (n : Node) → AllNamed p (leaves n) → NodeLowers p r u g n
+  pub node_lowers : (n : Node) → AllNamed p (leaves n) → NodeLowers p r g n
   node_lowers = node_ind NamedLowers
-      (λ l all. rw (fold-Leaf Part (node_step u (levels p g r)) l, fold-Leaf Piece (piece_step p) l) (leaf_lowers l (rw (leaves-Leaf l) at all).0))
-      (λ ns h all. rw (fold-Series Part (node_step u (levels p g r)) ns, fold-Series Piece (piece_step p) ns) (series_lower p r u g ns (each_lowers ns h (rw (leaves-Series ns) at all))))
-      (λ ns h all. rw (fold-Parallel Part (node_step u (levels p g r)) ns, fold-Parallel Piece (piece_step p) ns) (parallel_lower ns (each_lowers ns h (rw (leaves-Parallel ns) at all))))
+      (λ l all. rw (fold-Leaf Part (node_step (terms_of p) (levels p g r)) l, fold-Leaf Piece (piece_step p) l) (leaf_lowers l (rw (leaves-Leaf l) at all).0))
+      (λ ns h all. rw (fold-Series Part (node_step (terms_of p) (levels p g r)) ns, fold-Series Piece (piece_step p) ns) (series_lower p r g ns (each_lowers ns h (rw (leaves-Series ns) at all))))
+      (λ ns h all. rw (fold-Parallel Part (node_step (terms_of p) (levels p g r)) ns, fold-Parallel Piece (piece_step p) ns) (parallel_lower ns (each_lowers ns h (rw (leaves-Parallel ns) at all))))
 
-  pub nodes_lower : (ns : List Node) → AllNamed p (leaves_in ns) → Lowers p r (nodes u (levels p g r) ns) (nodes_piece p ns)
-  nodes_lower ns all = series_lower p r u g ns (each_of ns all)
+  pub nodes_lower : (ns : List Node) → AllNamed p (leaves_in ns) → Lowers p r (nodes (terms_of p) (levels p g r) ns) (nodes_piece p ns)
+  nodes_lower ns all = series_lower p r g ns (each_of ns all)
     where
-      each_of : (ns : List Node) → AllNamed p (leaves_in ns) → Each (NodeLowers p r u g) ns
+      each_of : (ns : List Node) → AllNamed p (leaves_in ns) → Each (NodeLowers p r g) ns
       each_of [] all = tt
       each_of (n ∷ ns) all = (node_lowers n (named_front p (leaves n) (leaves_in ns) all), each_of ns (named_back p (leaves n) (leaves_in ns) all))

@@ -6,3 +6,5 @@ pub mod ElementCode
 pub mod NodeCode
 pub mod Nesting
 pub mod Masters
+pub mod Fit
+pub mod Careful

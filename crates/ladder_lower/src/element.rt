@@ -1,15 +1,90 @@
 //! The operations of elements. An element finds its input on the power wire, and leaves its output there.
 
-ghost use Rattle.std.specs.Prelude.{◌≡◌, ◌+◌, ◌<◌, ◌≤◌, ◌++◌, IfOk, OnOk};
+ghost use Rattle.std.specs.Prelude.{◌≡◌, ◌≢◌, ◌+◌, ◌<◌, ◌≤◌, ◌++◌, true, IfOk, OnOk};
 ghost use Rattle.ladder_tree.specs.Names.{memories};
 ghost use Rattle.ladder_tree.specs.declared.element.LeafKind.{LeafKind};
 ghost use Rattle.ladder_lower.specs.ElementCode.{coil_code, contact_code, edge_code, element_code};
+ghost use Rattle.ladder_lower.specs.Fit.{is_fit};
 ghost use Rattle.ladder_lower.specs.Wires.{Fits};
 
+use crate::devices::{emit_adc, emit_persist, emit_pwm, emit_recv, emit_send};
 use crate::layout::Layout;
+use crate::numbers::{
+    emit_compare, emit_counter, emit_math, emit_move, emit_reset, emit_shift, emit_table,
+    emit_timer,
+};
+use crate::power::{emit_cut_where, emit_where_power};
 use int_code::op::{BitDest, BitSource, IntOp, Ops};
 use ladder_tree::element::{CoilMode, LeafKind, Name};
-use std::alloc::AllocError;
+use ladder_tree::names::memories;
+use std::alloc::{AllocError, Global};
+
+/// An element behind `memory` memories. Answers how many there are behind it.
+pub fn emit_element(
+    alloc: Global,
+    ops: &mut Ops,
+    layout: &Layout<'_>,
+    kind: &LeafKind,
+    memory: u32,
+) -> Result<u32, AllocError>
+    requires fits { Fits layout.now 0 }
+    requires room { memory + memories kind.now ≤ layout.now.memories }
+    requires cycle { layout.now.cycle ≢ 0 }
+    requires fit { is_fit layout.now.cycle kind.now ≡ true }
+    ensures code { OnOk result (ops.new ≡ ops.old ++ element_code layout.now kind.now memory) }
+    ensures memories { IfOk result (λ k. k ≡ memory + memories kind.now) }
+{
+    emit_kind(alloc, ops, layout, kind, memory)?;
+    Ok(memory + memories(kind))
+}
+
+/// The operations of an element. Those that do nothing have none.
+fn emit_kind(
+    alloc: Global,
+    ops: &mut Ops,
+    layout: &Layout<'_>,
+    kind: &LeafKind,
+    memory: u32,
+) -> Result<(), AllocError>
+    requires fits { Fits layout.now 0 }
+    requires room { memory + memories kind.now ≤ layout.now.memories }
+    requires cycle { layout.now.cycle ≢ 0 }
+    requires fit { is_fit layout.now.cycle kind.now ≡ true }
+    ensures { OnOk result (ops.new ≡ ops.old ++ element_code layout.now kind.now memory) }
+{
+    match kind {
+        LeafKind::Contacts { name, neg } => emit_contact(ops, layout, *neg, name),
+        LeafKind::Coil { name, mode } => emit_coil(ops, layout, *mode, name),
+        LeafKind::Osr => emit_edge(ops, layout, memory, false),
+        LeafKind::Osf => emit_edge(ops, layout, memory, true),
+        LeafKind::Open => emit_open(ops, layout),
+        LeafKind::MasterRelay => emit_master(ops, layout),
+        LeafKind::Timer { how, name, delay } => {
+            emit_timer(ops, layout, *how, name, layout.period(*delay))
+        }
+        LeafKind::Counter { how, name, max } => {
+            emit_counter(ops, layout, *how, name, *max, memory)
+        }
+        LeafKind::Reset { name } => emit_reset(ops, layout, name),
+        LeafKind::Move { dest, src } => emit_move(ops, layout, dest, src),
+        LeafKind::Math { how, dest, a, b } => emit_math(ops, layout, *how, dest, a, b),
+        LeafKind::Compare { how, a, b } => emit_compare(ops, layout, *how, a, b),
+        LeafKind::Shift { name, places } => emit_shift(alloc, ops, layout, name, *places, memory),
+        LeafKind::Table {
+            dest,
+            index,
+            values,
+            ..
+        } => emit_table(alloc, ops, layout, dest, index, values),
+        LeafKind::ReadAdc { name } => emit_adc(ops, layout, name),
+        LeafKind::SetPwm { name, hz } => emit_pwm(ops, layout, name, *hz),
+        LeafKind::Recv { name } => emit_recv(ops, layout, name),
+        LeafKind::Send { name } => emit_send(ops, layout, name),
+        LeafKind::Persist { name } => emit_persist(ops, layout, name),
+        LeafKind::Short | LeafKind::Placeholder | LeafKind::Comment { .. } => Ok(()),
+        LeafKind::Linear { .. } | LeafKind::Formatted { .. } => Ok(()),
+    }
+}
 
 /// A contact switches the power off where it is open.
 fn emit_contact(
@@ -22,14 +97,11 @@ fn emit_contact(
     ensures { OnOk result (ops.new ≡ ops.old ++ contact_code layout.now neg name.now) }
 {
     let s = layout.source_of(name);
-    let b = BitDest::B(layout.power());
     if neg {
-        ops.push(IntOp::Ifs { s })?;
+        emit_cut_where(ops, layout, IntOp::Ifs { s })
     } else {
-        ops.push(IntOp::Ifc { s })?;
+        emit_cut_where(ops, layout, IntOp::Ifc { s })
     }
-    ops.push(IntOp::Clr { b })?;
-    ops.push(IntOp::Fi)
 }
 
 /// A coil leaves the power as it is. Its bit follows it, or changes where there is power.
@@ -47,16 +119,8 @@ fn emit_coil(
     match mode {
         CoilMode::Plain => ops.push(IntOp::Cpy { b, s }),
         CoilMode::Negated => ops.push(IntOp::Not { b, s }),
-        CoilMode::Set => {
-            ops.push(IntOp::Ifs { s })?;
-            ops.push(IntOp::Set { b })?;
-            ops.push(IntOp::Fi)
-        }
-        CoilMode::Reset => {
-            ops.push(IntOp::Ifs { s })?;
-            ops.push(IntOp::Clr { b })?;
-            ops.push(IntOp::Fi)
-        }
+        CoilMode::Set => emit_where_power(ops, layout, IntOp::Set { b }),
+        CoilMode::Reset => emit_where_power(ops, layout, IntOp::Clr { b }),
     }
 }
 
@@ -99,6 +163,16 @@ fn emit_edge(
     })
 }
 
+/// OPEN switches the power off.
+fn emit_open(ops: &mut Ops, layout: &Layout<'_>) -> Result<(), AllocError>
+    requires { Fits layout.now 0 }
+    ensures { OnOk result (ops.new ≡ ops.old ++ element_code layout.now LeafKind.Open 0) }
+{
+    ops.push(IntOp::Clr {
+        b: BitDest::B(layout.power()),
+    })
+}
+
 /// The master relay bit becomes the power where it is true, and true where it is false. The power stays.
 fn emit_master(ops: &mut Ops, layout: &Layout<'_>) -> Result<(), AllocError>
     requires { Fits layout.now 0 }
@@ -118,47 +192,4 @@ fn emit_master(ops: &mut Ops, layout: &Layout<'_>) -> Result<(), AllocError>
         b: BitDest::B(master),
     })?;
     ops.push(IntOp::Fi)
-}
-
-/// An element behind `memory` memories. Answers how many there are behind it. Elements that do nothing yet have no operation.
-pub fn emit_element(
-    ops: &mut Ops,
-    layout: &Layout<'_>,
-    kind: &LeafKind,
-    memory: u32,
-) -> Result<u32, AllocError>
-    requires fits { Fits layout.now 0 }
-    requires room { memory + memories kind.now ≤ layout.now.memories }
-    ensures code { OnOk result (ops.new ≡ ops.old ++ element_code layout.now kind.now memory) }
-    ensures memories { IfOk result (λ k. k ≡ memory + memories kind.now) }
-{
-    match kind {
-        LeafKind::Contacts { name, neg } => {
-            emit_contact(ops, layout, *neg, name)?;
-            Ok(memory)
-        }
-        LeafKind::Coil { name, mode } => {
-            emit_coil(ops, layout, *mode, name)?;
-            Ok(memory)
-        }
-        LeafKind::Osr => {
-            emit_edge(ops, layout, memory, false)?;
-            Ok(memory + 1)
-        }
-        LeafKind::Osf => {
-            emit_edge(ops, layout, memory, true)?;
-            Ok(memory + 1)
-        }
-        LeafKind::Open => {
-            let b = BitDest::B(layout.power());
-            ops.push(IntOp::Clr { b })?;
-            Ok(memory)
-        }
-        LeafKind::MasterRelay => {
-            emit_master(ops, layout)?;
-            Ok(memory)
-        }
-        LeafKind::Counter { .. } | LeafKind::Shift { .. } => Ok(memory + 1),
-        _ => Ok(memory),
-    }
 }

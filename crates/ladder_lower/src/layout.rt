@@ -1,39 +1,52 @@
-//! Where names, memories and wires stand among the numbered bits: relays, then memories, then wires.
+//! Where names, memories and wires stand among the numbered bits and variables. The bits are relays, then memories, then
+//! start flags, then wires.
 
-ghost use Rattle.std.specs.Prelude.{◌≡◌, ◌+◌, ◌*◌, ◌^◌, ◌<◌, length, IfOk};
-ghost use Rattle.ladder_tree.specs.Names.{begins_with};
-ghost use Rattle.ladder_lower.specs.Apart.{Apart};
-ghost use Rattle.ladder_lower.specs.Wires.{Fits, layout_of, dest_of, source_of, memory_bit, wire, power, masters, master, spare, outer_wires, wires, in_wire, or_wire};
+ghost use Rattle.std.specs.Prelude.{◌≡◌, ◌≢◌, ◌+◌, ◌^◌, ◌<◌, ◌≤◌, pos, IfOk};
+ghost use Rattle.ladder_meaning.specs.Numbers.{period};
+ghost use Rattle.ladder_meaning.specs.State.{place_of};
+ghost use Rattle.ladder_lower.specs.Apart.{EachApart};
+ghost use Rattle.ladder_lower.specs.Wires.{Fits, layout_of, dest_of, source_of, variable_of, number_of, memory_bit, flag_bit, wire, power, masters, master, spares, spare, wires, in_wire, or_wire};
 
 use crate::places::Places;
-use int_code::op::{BitDest, BitSource};
-use ladder_tree::element::Name;
-use ladder_tree::names::Names;
+use int_code::op::{BitDest, BitSource, NumSource};
+use ladder_tree::element::{Name, Operand};
+use ladder_tree::names::{Names, begins_with};
 use std::alloc::{AllocError, Global};
 
-/// The lists of names, how many memories there are, and whether there is a master relay.
+/// The lists of names, how many memories there are, the cycle in microseconds, and whether there is a master relay.
 #[derive(Drop)]
 pub struct Layout<'n> {
     pub inputs: Places<'n>,
     pub outputs: Places<'n>,
     pub relays: Places<'n>,
+    pub variables: Places<'n>,
+    pub analog: Places<'n>,
+    pub persistent: Places<'n>,
     pub memories: u32,
+    pub cycle: u32,
     pub has_master: bool,
 }
 
 impl<'n> Layout<'n> {
     /// The layout of a project's names.
-    pub fn new(alloc: Global, names: &'n Names, has_master: bool) -> Result<Layout<'n>, AllocError>
-        requires inputs { Apart names.now.inputs }
-        requires outputs { Apart names.now.outputs }
-        requires relays { Apart names.now.relays }
-        ensures { IfOk result (λ p. p ≡ layout_of names.now has_master) }
+    pub fn new(
+        alloc: Global,
+        names: &'n Names,
+        cycle: u32,
+        has_master: bool,
+    ) -> Result<Layout<'n>, AllocError>
+        requires { EachApart names.now }
+        ensures { IfOk result (λ p. p ≡ layout_of names.now cycle has_master) }
     {
         Ok(Layout {
             inputs: Places::new(alloc, names.inputs.as_slice())?,
             outputs: Places::new(alloc, names.outputs.as_slice())?,
             relays: Places::new(alloc, names.relays.as_slice())?,
+            variables: Places::new(alloc, names.variables.as_slice())?,
+            analog: Places::new(alloc, names.analog.as_slice())?,
+            persistent: Places::new(alloc, names.persistent.as_slice())?,
             memories: names.memories,
+            cycle,
             has_master,
         })
     }
@@ -65,6 +78,49 @@ impl<'n> Layout<'n> {
         }
     }
 
+    /// The number of a variable.
+    pub fn variable_of(&self, name: &Name) -> u32
+        requires { Fits self.now 0 }
+        ensures { result ≡ variable_of self.now name.now }
+    {
+        self.variables.place(name)
+    }
+
+    /// The number that an operand reads.
+    pub fn number_of(&self, operand: &Operand) -> NumSource
+        requires { Fits self.now 0 }
+        ensures { result ≡ number_of self.now operand.now }
+    {
+        match operand {
+            Operand::Var(name) => NumSource::V(self.variable_of(name)),
+            Operand::Num(number) => NumSource::N(*number),
+        }
+    }
+
+    /// The number of an analog input.
+    pub fn analog_of(&self, name: &Name) -> u32
+        requires { Fits self.now 0 }
+        ensures { result ≡ place_of self.now.analog name.now }
+    {
+        self.analog.place(name)
+    }
+
+    /// The number of a persistent variable among those.
+    pub fn persistent_of(&self, name: &Name) -> u32
+        requires { Fits self.now 0 }
+        ensures { result ≡ place_of self.now.persistent name.now }
+    {
+        self.persistent.place(name)
+    }
+
+    /// The start flag of a persistent variable.
+    pub fn flag_bit(&self, name: &Name) -> u32
+        requires { Fits self.now 0 }
+        ensures { result ≡ flag_bit self.now name.now }
+    {
+        self.relays.len() as u32 + (self.memories + self.persistent.place(name))
+    }
+
     /// The bit of a memory.
     pub fn memory_bit(&self, memory: u32) -> u32
         requires { memory_bit self.now memory < 2 ^ 32 }
@@ -77,7 +133,7 @@ impl<'n> Layout<'n> {
         requires { wire self.now number < 2 ^ 32 }
         ensures { result ≡ wire self.now number }
     {
-        self.relays.len() as u32 + (self.memories + number)
+        self.relays.len() as u32 + (self.memories + (self.persistent.len() as u32 + number))
     }
 
     fn masters(&self) -> u32
@@ -96,18 +152,34 @@ impl<'n> Layout<'n> {
 
     /// The wire of the master relay, where there is one.
     pub fn master(&self) -> u32
-        requires { master self.now < 2 ^ 32 }
+        requires { Fits self.now 0 }
         ensures { result ≡ master self.now }
     {
         self.wire(1)
     }
 
-    /// The wire of an element with a memory, for a moment.
+    fn spares(&self) -> u32
+        requires { Fits self.now 0 }
+        ensures { result ≡ spares self.now }
+    {
+        (self.memories + self.persistent.len() as u32).min(1)
+    }
+
+    /// The wire of an element with a memory or a start flag, for a moment.
     pub fn spare(&self) -> u32
-        requires { spare self.now < 2 ^ 32 }
+        requires { Fits self.now 0 }
         ensures { result ≡ spare self.now }
     {
         self.wire(1 + self.masters())
+    }
+
+    /// How many cycles a delay in microseconds has.
+    pub fn period(&self, delay: u32) -> i16
+        requires cycle { self.now.cycle ≢ 0 }
+        requires fits { period self.now.cycle delay ≤ 32767 }
+        ensures { result ≡ pos (period self.now.cycle delay) }
+    {
+        (delay / self.cycle) as i16
     }
 
     /// How many wires there are inside `depth` PARALLELs.
@@ -115,7 +187,7 @@ impl<'n> Layout<'n> {
         requires { Fits self.now depth }
         ensures { result ≡ wires self.now depth }
     {
-        1 + self.masters() + self.memories.min(1) + 2 * depth
+        1 + self.masters() + self.spares() + 2 * depth
     }
 
     /// The wire that keeps the input of a PARALLEL inside `depth` others.
@@ -133,11 +205,4 @@ impl<'n> Layout<'n> {
     {
         self.wire(self.wires(depth) + 1)
     }
-}
-
-fn begins_with(name: &Name, letter: u8) -> bool
-    requires { 0 < letter }
-    ensures { result ≡ begins_with letter name.now }
-{
-    name.len() > 0 && *name.get(0) == letter
 }

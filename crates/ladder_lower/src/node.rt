@@ -1,6 +1,8 @@
 //! The operations of nodes. A node finds its input on the power wire, and leaves its output there.
 
-ghost use Rattle.std.specs.Prelude.{◌≡◌, ◌+◌, ◌<◌, ◌≤◌, ◌++◌, length, drop, IfOk, OnOk};
+ghost use Rattle.std.specs.Prelude.{◌≡◌, ◌≢◌, ◌+◌, ◌≤◌, ◌++◌, true, length, drop, IfOk, OnOk};
+ghost use Rattle.ladder_tree.specs.Leaves.{leaves, leaves_in};
+ghost use Rattle.ladder_lower.specs.Fit.{all_fit};
 ghost use Rattle.ladder_lower.specs.Nesting.{nesting, nesting_in, nesting_of_parallel};
 ghost use Rattle.ladder_lower.specs.NodeCode.{piece, nodes_piece, others_of, join, parallel_of};
 ghost use Rattle.ladder_lower.specs.Wires.{Fits};
@@ -9,11 +11,12 @@ use crate::element::emit_element;
 use crate::layout::Layout;
 use int_code::op::{BitDest, BitSource, IntOp, Ops};
 use ladder_tree::project::Node;
-use std::alloc::AllocError;
+use std::alloc::{AllocError, Global};
 
 /// A node inside `depth` PARALLELs and behind `memory` memories. Answers how many there are behind it.
 #[cycle(emit)]
 fn emit_node(
+    alloc: Global,
     ops: &mut Ops,
     layout: &Layout<'_>,
     node: &Node,
@@ -22,19 +25,22 @@ fn emit_node(
 ) -> Result<u32, AllocError>
     requires fits { Fits layout.now (depth + nesting node.now) }
     requires room { memory + (piece layout.now node.now).memories ≤ layout.now.memories }
+    requires cycle { layout.now.cycle ≢ 0 }
+    requires fit { all_fit layout.now.cycle (leaves node.now) ≡ true }
     ensures code { OnOk result (ops.new ≡ ops.old ++ (piece layout.now node.now).code depth memory) }
     ensures memories { IfOk result (λ k. k ≡ memory + (piece layout.now node.now).memories) }
 {
     match node {
-        Node::Leaf(leaf) => emit_element(ops, layout, &leaf.kind, memory),
-        Node::Series(nodes) => emit_series(ops, layout, nodes.as_slice(), depth, memory),
-        Node::Parallel(nodes) => emit_parallel(ops, layout, nodes.as_slice(), depth, memory),
+        Node::Leaf(leaf) => emit_element(alloc, ops, layout, &leaf.kind, memory),
+        Node::Series(nodes) => emit_series(alloc, ops, layout, nodes.as_slice(), depth, memory),
+        Node::Parallel(nodes) => emit_parallel(alloc, ops, layout, nodes.as_slice(), depth, memory),
     }
 }
 
 /// Nodes one after another: each finds the power that the one before it left.
 #[cycle(emit)]
 pub fn emit_series(
+    alloc: Global,
     ops: &mut Ops,
     layout: &Layout<'_>,
     nodes: &[Node],
@@ -43,12 +49,14 @@ pub fn emit_series(
 ) -> Result<u32, AllocError>
     requires fits { Fits layout.now (depth + nesting_in nodes.now) }
     requires room { memory + (nodes_piece layout.now nodes.now).memories ≤ layout.now.memories }
+    requires cycle { layout.now.cycle ≢ 0 }
+    requires fit { all_fit layout.now.cycle (leaves_in nodes.now) ≡ true }
     ensures code { OnOk result (ops.new ≡ ops.old ++ (nodes_piece layout.now nodes.now).code depth memory) }
     ensures memories { IfOk result (λ k. k ≡ memory + (nodes_piece layout.now nodes.now).memories) }
 {
     let mut k = memory;
     for node in nodes {
-        k = emit_node(ops, layout, node, depth, k)?;
+        k = emit_node(alloc, ops, layout, node, depth, k)?;
     }
     Ok(k)
 }
@@ -57,6 +65,7 @@ pub fn emit_series(
 /// wire, and behind the first its output on another, where those of the others join it.
 #[cycle(emit)]
 fn emit_parallel(
+    alloc: Global,
     ops: &mut Ops,
     layout: &Layout<'_>,
     branches: &[Node],
@@ -65,6 +74,8 @@ fn emit_parallel(
 ) -> Result<u32, AllocError>
     requires fits { Fits layout.now (depth + nesting_of_parallel branches.now) }
     requires room { memory + (parallel_of layout.now branches.now).memories ≤ layout.now.memories }
+    requires cycle { layout.now.cycle ≢ 0 }
+    requires fit { all_fit layout.now.cycle (leaves_in branches.now) ≡ true }
     ensures code { OnOk result (ops.new ≡ ops.old ++ (parallel_of layout.now branches.now).code depth memory) }
     ensures memories { IfOk result (λ k. k ≡ memory + (parallel_of layout.now branches.now).memories) }
 {
@@ -76,19 +87,19 @@ fn emit_parallel(
         }
         [first, others @ ..] => {
             if others.is_empty() {
-                return emit_node(ops, layout, first, depth, memory);
+                return emit_node(alloc, ops, layout, first, depth, memory);
             }
             let s = BitSource::B(layout.power());
             ops.push(IntOp::Cpy {
                 b: BitDest::B(layout.in_wire(depth)),
                 s,
             })?;
-            let k = emit_node(ops, layout, first, depth + 1, memory)?;
+            let k = emit_node(alloc, ops, layout, first, depth + 1, memory)?;
             ops.push(IntOp::Cpy {
                 b: BitDest::B(layout.or_wire(depth)),
                 s,
             })?;
-            emit_others(ops, layout, branches, depth, k)
+            emit_others(alloc, ops, layout, branches, depth, k)
         }
     }
 }
@@ -96,6 +107,7 @@ fn emit_parallel(
 /// The branches behind the first. Each begins on the kept input.
 #[cycle(emit)]
 fn emit_others(
+    alloc: Global,
     ops: &mut Ops,
     layout: &Layout<'_>,
     branches: &[Node],
@@ -105,6 +117,8 @@ fn emit_others(
     requires some { 1 ≤ length branches.now }
     requires fits { Fits layout.now (depth + 1 + nesting_in branches.now) }
     requires room { memory + (others_of layout.now (drop 1 branches.now)).memories ≤ layout.now.memories }
+    requires cycle { layout.now.cycle ≢ 0 }
+    requires fit { all_fit layout.now.cycle (leaves_in branches.now) ≡ true }
     ensures code { OnOk result (ops.new ≡ ops.old ++ (others_of layout.now (drop 1 branches.now)).code depth memory) }
     ensures memories { IfOk result (λ k. k ≡ memory + (others_of layout.now (drop 1 branches.now)).memories) }
 {
@@ -116,7 +130,7 @@ fn emit_others(
             b: BitDest::B(power),
             s: BitSource::B(input),
         })?;
-        k = emit_node(ops, layout, &branches[i], depth + 1, k)?;
+        k = emit_node(alloc, ops, layout, &branches[i], depth + 1, k)?;
         emit_join(ops, layout, depth, i + 1 == branches.len())?;
     }
     Ok(k)

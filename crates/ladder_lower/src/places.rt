@@ -1,6 +1,6 @@
 //! The places of names in a list.
 
-ghost use Rattle.std.specs.Prelude.{◌≡◌, ◌^◌, ◌<◌, length, IfOk};
+ghost use Rattle.std.specs.Prelude.{◌≡◌, ◌^◌, ◌<◌, ◌≤◌, length, IfOk};
 ghost use Rattle.ladder_meaning.specs.State.{place_of};
 ghost use Rattle.ladder_lower.specs.Apart.{Apart};
 
@@ -46,7 +46,8 @@ impl<'n> Places<'n> {
     /// Where a name stands, or the list's length.
     pub fn place(&self, name: &Name) -> u32
         requires { length self.now < 2 ^ 32 }
-        ensures { result ≡ place_of self.now name.now }
+        ensures exact { result ≡ place_of self.now name.now }
+        ensures within { result ≤ length self.now }
     {
         let place = self.names.get_index_of(name.as_slice());
         place.unwrap_or(self.names.len()) as u32

@@ -1,20 +1,26 @@
 //! The program of a project.
 
-ghost use Rattle.std.specs.Prelude.{◌≡◌, ◌+◌, ◌≤◌, true, [], ◌∷◌, ◌++◌, length, IfOk, OnOk};
-ghost use Rattle.ladder_tree.specs.BitWords.{all_bit_words};
+ghost use Rattle.std.specs.Prelude.{◌≡◌, ◌≢◌, ◌+◌, ◌≤◌, true, [], ◌∷◌, ◌++◌, length, map, IfOk, OnOk};
 ghost use Rattle.ladder_tree.specs.Leaves.{all_leaves, depth_of_all};
 ghost use Rattle.ladder_tree.specs.Names.{names_of, all_well_named};
 ghost use Rattle.ladder_tree.specs.Size.{size_of_all};
+ghost use Rattle.ladder_tree.specs.declared.project.Project.{Project};
+ghost use Rattle.ladder_meaning.specs.Cycle.{start_number};
 ghost use Rattle.int_code.specs.Caps.{ops_cap};
 ghost use Rattle.int_code.specs.WellFormed.{IsWellFormed};
+ghost use Rattle.ladder_lower.specs.Careful.{IsCareful};
 ghost use Rattle.ladder_lower.specs.Correct.{KeepsHistory};
+ghost use Rattle.ladder_lower.specs.Fit.{all_fit};
 ghost use Rattle.ladder_lower.specs.Nesting.{nesting_of_all};
 ghost use Rattle.ladder_lower.specs.NodeCode.{rung_start, rungs_code, program_code, memories_of};
-ghost use Rattle.ladder_lower.specs.Outcome.{HasSizes, IsSmall, HasRoom};
+ghost use Rattle.ladder_lower.specs.Outcome.{HasSizes, IsSmall, HasRoom, has_set_pwm};
+ghost use Rattle.int_code.specs.Literals.{AllHoldNumbers};
+ghost use Rattle.int_code.specs.Uses.{has_pwm};
 ghost use Rattle.ladder_lower.specs.Wires.{Fits};
 
 use crate::layout::Layout;
 use crate::node::emit_series;
+use crate::starts::start_values;
 use crate::survey::{has_master, nesting};
 use int_code::op::{BitDest, BitSource, IntOp, IntProgram, Ops};
 use ladder_tree::element::Nums;
@@ -22,36 +28,42 @@ use ladder_tree::names::Names;
 use ladder_tree::project::{Project, Rung};
 use std::alloc::{AllocError, Global};
 
-/// The program of a project whose elements all are bit words. Its operations keep the ladder's history.
+/// The program of a project. Its operations keep the ladder's history.
 pub fn lower(alloc: Global, project: &Project, names: &Names) -> Result<IntProgram, AllocError>
     requires names { names.now ≡ names_of project.now.rungs }
     requires named { all_well_named (all_leaves project.now.rungs) ≡ true }
-    requires bit_words { all_bit_words (all_leaves project.now.rungs) ≡ true }
+    requires cycle { project.now.cycle ≢ 0 }
+    requires fit { all_fit project.now.cycle (all_leaves project.now.rungs) ≡ true }
     requires depth { depth_of_all project.now.rungs ≤ 16 }
-    requires size { size_of_all project.now.rungs ≤ 65536 }
+    requires size { size_of_all project.now.rungs ≤ 13000 }
     ensures formed { IfOk result IsWellFormed }
-    ensures sizes { IfOk result (HasSizes names.now) }
+    ensures sizes { IfOk result (HasSizes names.now project.now) }
     ensures keeps { IfOk result (λ p. KeepsHistory names.now project.now p.ops) }
+    ensures careful { IfOk result (λ p. IsCareful p.ops) }
+    ensures pwm { IfOk result (λ p. has_pwm p.ops ≡ has_set_pwm (all_leaves project.now.rungs)) }
     ensures cap { IfOk result (λ p. length p.ops ≤ ops_cap project.now.rungs) }
     ensures room { IfOk result HasRoom }
+    ensures numbers { IfOk result (λ p. AllHoldNumbers p.ops) }
+    ensures small { IfOk result (λ p. IsSmall names.now) }
 {
     let rungs = project.rungs.as_slice();
-    let layout = Layout::new(alloc, names, has_master(rungs))?;
+    let layout = Layout::new(alloc, names, project.cycle, has_master(rungs))?;
     let mut ops = Ops::new(alloc);
-    emit_program(&mut ops, &layout, rungs)?;
+    emit_program(alloc, &mut ops, &layout, rungs)?;
+    let starts = start_values(alloc, project, &layout)?;
     let wires = layout.wires(nesting(rungs));
-    Ok(assemble(names, ops, wires, Nums::new(alloc)))
+    Ok(assemble(names, ops, wires, starts))
 }
 
+/// The program with its sizes: the bits are those of the names, and behind them the wires.
 fn assemble(names: &Names, ops: Ops, wires: u32, starts: Nums) -> IntProgram
     requires small { IsSmall names.now }
     requires wires { wires ≤ 48 }
-    requires starts { starts ≡ [] }
     ensures ops { result.ops ≡ ops }
-    ensures sizes { HasSizes names.now result }
+    ensures sizes { (q : Project) → starts ≡ map (start_number q.cycle (all_leaves q.rungs)) names.now.variables → HasSizes names.now q result }
     ensures bits { result.bits ≡ result.kept_bits + wires }
 {
-    let kept_bits = names.relays.len() as u32 + names.memories;
+    let kept_bits = names.relays.len() as u32 + (names.memories + names.persistent.len() as u32);
     IntProgram {
         ops,
         inputs: names.inputs.len() as u32,
@@ -66,9 +78,16 @@ fn assemble(names: &Names, ops: Ops, wires: u32, starts: Nums) -> IntProgram
 }
 
 /// The rungs in order, behind the master relay's start where there is one.
-fn emit_program(ops: &mut Ops, layout: &Layout<'_>, rungs: &[Rung]) -> Result<(), AllocError>
+fn emit_program(
+    alloc: Global,
+    ops: &mut Ops,
+    layout: &Layout<'_>,
+    rungs: &[Rung],
+) -> Result<(), AllocError>
     requires fits { Fits layout.now (nesting_of_all rungs.now) }
     requires room { memories_of layout.now rungs.now ≤ layout.now.memories }
+    requires cycle { layout.now.cycle ≢ 0 }
+    requires fit { all_fit layout.now.cycle (all_leaves rungs.now) ≡ true }
     ensures { OnOk result (ops.new ≡ ops.old ++ program_code layout.now rungs.now) }
 {
     if layout.has_master {
@@ -76,18 +95,25 @@ fn emit_program(ops: &mut Ops, layout: &Layout<'_>, rungs: &[Rung]) -> Result<()
             b: BitDest::B(layout.master()),
         })?;
     }
-    emit_rungs(ops, layout, rungs)
+    emit_rungs(alloc, ops, layout, rungs)
 }
 
-fn emit_rungs(ops: &mut Ops, layout: &Layout<'_>, rungs: &[Rung]) -> Result<(), AllocError>
+fn emit_rungs(
+    alloc: Global,
+    ops: &mut Ops,
+    layout: &Layout<'_>,
+    rungs: &[Rung],
+) -> Result<(), AllocError>
     requires fits { Fits layout.now (nesting_of_all rungs.now) }
     requires room { memories_of layout.now rungs.now ≤ layout.now.memories }
+    requires cycle { layout.now.cycle ≢ 0 }
+    requires fit { all_fit layout.now.cycle (all_leaves rungs.now) ≡ true }
     ensures { OnOk result (ops.new ≡ ops.old ++ rungs_code layout.now rungs.now 0) }
 {
     let mut k = 0;
     for rung in rungs {
         emit_rung_start(ops, layout)?;
-        k = emit_series(ops, layout, rung.nodes.as_slice(), 0, k)?;
+        k = emit_series(alloc, ops, layout, rung.nodes.as_slice(), 0, k)?;
     }
     Ok(())
 }

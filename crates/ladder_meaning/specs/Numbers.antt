@@ -11,6 +11,10 @@ use Rattle.ladder_tree.specs.declared.element.TimerHow.{TimerHow}
 use Rattle.ladder_tree.specs.declared.element.TimerHow.TheVariants.{Ton, Tof, Rto}
 use Rattle.ld_base.specs.Wrap.{wrap}
 
+-- the number behind n, which is -32768 behind 32767
+abbrev pub next : ℤ → ℤ
+next n = wrap (n +ℤ pos 1)
+
 -- how many cycles a delay has, both in microseconds
 abbrev pub period : ℕ → ℕ → ℕ
 period cycle delay = delay / cycle
@@ -22,18 +26,18 @@ pub record Timed : Type 0 where
 
 -- a timer of p cycles that stands at t, on an input
 abbrev pub timed : TimerHow → ℤ → ℤ → Bool → Timed
-timed Ton p t true = if int_lt t p then record { number = t +ℤ pos 1; output = false } else record { number = t; output = true }
+timed Ton p t true = if int_lt t p then record { number = next t; output = false } else record { number = t; output = true }
 timed Ton p t false = record { number = pos 0; output = false }
 timed Tof p t true = record { number = pos 0; output = true }
-timed Tof p t false = if int_lt t p then record { number = t +ℤ pos 1; output = true } else record { number = t; output = false }
-timed Rto p t true = if int_lt t p then record { number = t +ℤ pos 1; output = false } else record { number = t; output = true }
+timed Tof p t false = if int_lt t p then record { number = next t; output = true } else record { number = t; output = false }
+timed Rto p t true = if int_lt t p then record { number = next t; output = false } else record { number = t; output = true }
 timed Rto p t false = record { number = t; output = not (int_lt t p) }
 
 -- a counter's number behind a count, by its limit
 abbrev pub counted : CounterHow → ℤ → ℤ → ℤ
-counted Ctu max n = wrap (n +ℤ pos 1)
+counted Ctu max n = next n
 counted Ctd max n = wrap (n -ℤ pos 1)
-counted Ctc max n = if int_le max n then pos 0 else n +ℤ pos 1
+counted Ctc max n = if int_le max n then pos 0 else next n
 
 -- a counter's output: CTC passes its input
 abbrev pub counter_output : CounterHow → ℤ → ℤ → Bool → Bool

@@ -1,8 +1,9 @@
 //! Laws of the meaning of ladders, each the contract of a function that does nothing.
 
-ghost use Rattle.std.specs.Prelude.{◌≡◌, ◌≢◌, ◌≤◌, ℕ, true, List, [], ◌++◌, length};
+ghost use Rattle.std.specs.Prelude.{◌≡◌, ◌≢◌, ◌≤◌, ℕ, true, List, [], ◌++◌, length, ℤ, pos, negsuc, ◌+ℤ◌, ◌≤ℤ◌, ◌<ℤ◌};
 ghost use Rattle.ladder_tree.specs.declared.project.Project.{Project};
 ghost use Rattle.ladder_meaning.specs.Cycle.{cycle, history, last_of};
+ghost use Rattle.ladder_meaning.specs.Numbers.{next};
 ghost use Rattle.ladder_meaning.specs.Rows.{WorkedRows};
 ghost use Rattle.ladder_meaning.specs.State.{State, Seen};
 
@@ -21,6 +22,11 @@ pub fn a_cycle_sends_one_byte_at_most()
 pub fn a_cycle_writes_one_byte_at_most()
     ensures one { (p : Project) (s : State) (r : Seen) → (address : ℕ) × ((a : ℕ) → a ≢ address → (cycle p s r).state.eeprom a ≡ s.eeprom a) }
     ensures busy { (p : Project) (s : State) (r : Seen) → r.writing ≡ true → (a : ℕ) → (cycle p s r).state.eeprom a ≡ s.eeprom a }
+{}
+
+/// Below a number of 16 bits one more is plain addition: no timer and no round counter goes past its limit by wrapping.
+pub fn counting_is_plain()
+    ensures { (n limit : ℤ) → negsuc 32767 ≤ℤ n → limit ≤ℤ pos 32767 → n <ℤ limit → next n ≡ n +ℤ pos 1 }
 {}
 
 /// What small ladders do, cycle by cycle.

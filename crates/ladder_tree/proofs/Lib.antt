@@ -1,4 +1,3 @@
-pub mod BitWordLemmas
 pub mod FirstLemmas
 pub mod FoldLemmas
 pub mod NameLemmas

@@ -1,4 +1,3 @@
-pub mod BitWords
 pub mod Fault
 pub mod Forms
 pub mod Induct

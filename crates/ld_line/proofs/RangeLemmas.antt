@@ -1,6 +1,7 @@
 -- The ranges of what lines say.
 use Rattle.std.proofs.Common.{◌≡◌, ℕ, Bool, true, false, ℤ, List, [], ◌∷◌, length, refl}
-use Rattle.std.proofs.Common.{◌≤◌, ◌&&◌, ◌==◌, nat_le, pos, negsuc, Option, None, Some, if◌then◌else◌, int_le, unsigned_abs, slice_index_or, arith}
+use Rattle.std.proofs.Common.{◌≤◌, ◌&&◌, ◌==◌, nat_le, pos, neg_ℤ, negsuc, Option, None, Some, if◌then◌else◌, int_le, unsigned_abs, slice_index_or, arith}
+use Rattle.std.specs.List.{list_all}
 use Rattle.std.proofs.lemmas.Int.{ints}
 use Rattle.std.proofs.lemmas.Bool.Decides.{nat_tests}
 use Rattle.ladder_tree.specs.Names.{is_name}
@@ -27,7 +28,7 @@ use Rattle.ld_line.specs.Tokens.{trimmed, tokens}
 use Rattle.ld_line.specs.Numbers.{most_pin}
 use Rattle.ld_line.specs.Pins as pins
 use Rattle.ld_line.specs.Header.{behind_word, keyed, setting, tokens_say, compiled_or, micro_or, header_of}
-use Rattle.ld_line.specs.Range.{is_read_operand, is_read_kind, is_read_pin, is_read_setting}
+use Rattle.ld_line.specs.Range.{is_integer, is_read_operand, is_read_kind, is_read_pin, is_read_setting}
 use Rattle.ld_line.specs.declared.pins.PinsLine.{PinsLine}
 use Rattle.ld_line.specs.declared.pins.PinsLine.TheVariants as pins_line
 use Rattle.ld_line.specs.declared.header.HeaderLine.{HeaderLine}
@@ -39,6 +40,12 @@ use Rattle.ld_line.specs.declared.said.Said.TheVariants.{Bad, Range, Is}
 
 abbrev IsNamed : List ℕ → Type 0
 IsNamed n = is_name n ≡ true
+
+abbrev IsInteger : ℤ → Type 0
+IsInteger n = is_integer n ≡ true
+
+abbrev AreIntegers : List ℤ → Type 0
+AreIntegers ns = list_all is_integer ns ≡ true
 
 abbrev IsReadOperand : Operand → Type 0
 IsReadOperand o = is_read_operand o ≡ true
@@ -53,19 +60,53 @@ name_said t = by (is_name t) refl
     by true e = e
     by false e = tt
 
+at_most : (n most : ℕ) → n ≤ most → nat_le n most ≡ true
+at_most n most h = grind (arith, nat_tests)
+
+two : (a b : Bool) → a ≡ true → b ≡ true → (a && b) ≡ true
+two true b h g = g
+two false b h g = absurd cc
+
+both_true : (a b : Bool) → (a && b) ≡ true → (a ≡ true) × (b ≡ true)
+both_true true b h = (refl, h)
+both_true false b h = absurd cc
+
+integer_said : (t : List ℕ) → IfIs (integer t) IsInteger
+unfolding integer
+integer_said t = of (number t)
+  where
+    by : (n : ℤ) (b : Bool) → is_integer n ≡ b → IfIs (if b then Is n else Range) IsInteger
+    by n true e = e
+    by n false e = tt
+
+    of : (o : Option ℤ) → IfIs (in_range (neg_ℤ (pos 32768)) (pos 32767) o) IsInteger
+    of None = tt
+    of (Some n) = by n (is_integer n) refl
+
+integers_said : (ts : List (List ℕ)) → IfIs (integers ts) AreIntegers
+integers_said [] = refl
+integers_said (t ∷ ts) =
+    if_made (λ p. p.0 ∷ p.1) IsInteger AreIntegers AreIntegers (integer t) (integers ts) (integer_said t) (integers_said ts)
+    (λ p h. two (is_integer p.0) (list_all is_integer p.1) h.0 h.1)
+
+below_delete : (c : ℕ) → nat_le c 0x7e ≡ true → is_integer (pos c) ≡ true
+below_delete c h = two (int_le (neg_ℤ (pos 32768)) (pos c)) (int_le (pos c) (pos 32767)) (grind (arith, ints, nat_tests)) (grind (arith, ints, nat_tests))
+
+character_said : (t : List ℕ) → is_character t ≡ true → is_integer (pos (slice_index_or t 1 0)) ≡ true
+character_said t h =
+    let c = slice_index_or t 1 0 in
+    let quoted = both_true (length t == 3) ((slice_index_or t 0 0 == 39 && slice_index_or t 2 0 == 39) && (nat_le 0x21 c && nat_le c 0x7e)) h in
+    let shows = both_true (slice_index_or t 0 0 == 39 && slice_index_or t 2 0 == 39) (nat_le 0x21 c && nat_le c 0x7e) quoted.1 in
+    below_delete c (both_true (nat_le 0x21 c) (nat_le c 0x7e) shows.1).1
+
 operand_said : (t : List ℕ) → IfIs (operand t) IsReadOperand
 unfolding operand
-operand_said t = by (is_name t) (is_character t) refl
+operand_said t = by (is_name t) (is_character t) refl refl
   where
-    number_said : (s : Said ℤ) → IfIs (said_map Num s) IsReadOperand
-    number_said Bad = tt
-    number_said Range = tt
-    number_said (Is n) = refl
-
-    by : (a b : Bool) → is_name t ≡ a → IfIs (if a then Is (Var t) else (if b then Is (Num (pos (slice_index_or t 1 0))) else said_map Num (integer t))) IsReadOperand
-    by true b e = e
-    by false true e = refl
-    by false false e = number_said (integer t)
+    by : (a b : Bool) → is_name t ≡ a → is_character t ≡ b → IfIs (if a then Is (Var t) else (if b then Is (Num (pos (slice_index_or t 1 0))) else said_map Num (integer t))) IsReadOperand
+    by true b e f = e
+    by false true e f = character_said t f
+    by false false e f = if_map Num IsReadOperand (integer t) (integer_said t)
 
 natural_said : (low high : ℕ) (t : List ℕ) → IfIs (natural_in low high t) (λ n. (low ≤ n) × (n ≤ high))
 unfolding natural_in
@@ -84,13 +125,6 @@ natural_said low high t = of (number t)
     of None = tt
     of (Some (pos n)) = at_pos n (int_le (pos low) (pos n)) (int_le (pos n) (pos high)) refl refl
     of (Some (negsuc n)) = at_neg n (int_le (pos low) (negsuc n)) (int_le (negsuc n) (pos high)) refl
-
-at_most : (n most : ℕ) → n ≤ most → nat_le n most ≡ true
-at_most n most h = grind (arith, nat_tests)
-
-two : (a b : Bool) → a ≡ true → b ≡ true → (a && b) ≡ true
-two true b h g = g
-two false b h g = absurd cc
 
 bare_said : (k : LeafKind) (ts : List (List ℕ)) → IsRead k → IfIs (bare k ts) IsRead
 bare_said k [] h = h
@@ -126,7 +160,9 @@ timer_said how (n ∷ d ∷ t ∷ ts) = tt
 counter_said : (how : CounterHow) (ts : List (List ℕ)) → IfIs (counter_of how ts) IsRead
 counter_said how [] = tt
 counter_said how (n ∷ []) = tt
-counter_said how (n ∷ m ∷ []) = if_made (λ p. kind.Counter how p.0 p.1) IsNamed (λ x. Unit {0}) IsRead (name n) (integer m) (name_said n) (anything (integer m)) (λ p h. h.0)
+counter_said how (n ∷ m ∷ []) =
+    if_made (λ p. kind.Counter how p.0 p.1) IsNamed IsInteger IsRead (name n) (integer m) (name_said n) (integer_said m)
+    (λ p h. two (is_name p.0) (is_integer p.1) h.0 h.1)
 counter_said how (n ∷ m ∷ t ∷ ts) = tt
 
 move_said : (ts : List (List ℕ)) → IfIs (move ts) IsRead
@@ -173,14 +209,15 @@ pwm_said (n ∷ z ∷ []) =
     (λ p h. two (is_name p.0) (nat_le p.1 most_setting) h.0 (at_most p.1 most_setting h.1.1))
 pwm_said (n ∷ z ∷ t ∷ ts) = tt
 
-counted_said : (dest : List ℕ) (index : Operand) (count : ℕ) (as_text : Bool) (values : List ℤ) → IsNamed dest → IsReadOperand index → count ≤ most_items → IfIs (counted dest index count as_text values) IsRead
-counted_said dest index count as_text values n o h = by (length values == count) refl
+counted_said : (dest : List ℕ) (index : Operand) (count : ℕ) (as_text : Bool) (values : List ℤ) → IsNamed dest → IsReadOperand index → count ≤ most_items → AreIntegers values → IfIs (counted dest index count as_text values) IsRead
+counted_said dest index count as_text values n o h v = by (length values == count) refl
   where
     by : (b : Bool) → (length values == count) ≡ b → IfIs (if b then Is (kind.Table dest index as_text values) else Bad) IsRead
     by true e =
         let same : length values ≡ count = grind (arith, nat_tests) in
         let few : length values ≤ most_items = omega arith in
-        two (is_name dest) (is_read_operand index && nat_le (length values) most_items) n (two (is_read_operand index) (nat_le (length values) most_items) o (at_most (length values) most_items few))
+        two (is_name dest) ((is_read_operand index && list_all is_integer values) && nat_le (length values) most_items) n
+        (two (is_read_operand index && list_all is_integer values) (nat_le (length values) most_items) (two (is_read_operand index) (list_all is_integer values) o v) (at_most (length values) most_items few))
     by false e = tt
 
 abbrev HeadFits : List ℕ × Operand → Type 0
@@ -190,7 +227,7 @@ abbrev HowFits : ℕ × Bool → Type 0
 HowFits p = ((0 ≤ p.0) × (p.0 ≤ most_items)) × Unit {0}
 
 abbrev TailFits : (ℕ × Bool) × List ℤ → Type 0
-TailFits p = HowFits p.0 × Unit {0}
+TailFits p = HowFits p.0 × AreIntegers p.1
 
 table_said : (ts : List (List ℕ)) → IfIs (table ts) IsRead
 table_said [] = tt
@@ -200,11 +237,11 @@ table_said (d ∷ i ∷ c ∷ []) = tt
 table_said (d ∷ i ∷ c ∷ f ∷ vs) =
     let head : IfIs (table_head d i) HeadFits = if_both IsNamed IsReadOperand (name d) (operand i) (name_said d) (operand_said i) in
     let how : IfIs (both (natural_in 0 most_items c) (flag f)) HowFits = if_both (λ n. (0 ≤ n) × (n ≤ most_items)) (λ x. Unit {0}) (natural_in 0 most_items c) (flag f) (natural_said 0 most_items c) (anything (flag f)) in
-    let tail : IfIs (both (both (natural_in 0 most_items c) (flag f)) (integers vs)) TailFits = if_both HowFits (λ x. Unit {0}) (both (natural_in 0 most_items c) (flag f)) (integers vs) how (anything (integers vs)) in
+    let tail : IfIs (both (both (natural_in 0 most_items c) (flag f)) (integers vs)) TailFits = if_both HowFits AreIntegers (both (natural_in 0 most_items c) (flag f)) (integers vs) how (integers_said vs) in
     let whole = both (table_head d i) (both (both (natural_in 0 most_items c) (flag f)) (integers vs)) in
     if_then (λ p. counted p.0.0 p.0.1 p.1.0.0 p.1.0.1 p.1.1) IsRead whole
     (if_weak (λ p. HeadFits p.0 × TailFits p.1) (λ p. IfIs (counted p.0.0 p.0.1 p.1.0.0 p.1.0.1 p.1.1) IsRead) whole
-    (λ p h. counted_said p.0.0 p.0.1 p.1.0.0 p.1.0.1 p.1.1 h.0.0 h.0.1 h.1.0.0.1)
+    (λ p h. counted_said p.0.0 p.0.1 p.1.0.0 p.1.0.1 p.1.1 h.0.0 h.0.1 h.1.0.0.1 h.1.1)
     (if_both HeadFits TailFits (table_head d i) (both (both (natural_in 0 most_items c) (flag f)) (integers vs)) head tail))
 
 named_said : (make : List ℕ → LeafKind) (ts : List (List ℕ)) → ((n : List ℕ) → IsNamed n → IsRead (make n)) → IfIs (named make ts) IsRead

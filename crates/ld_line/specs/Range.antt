@@ -1,5 +1,6 @@
 -- What lines can say: names that are names, and numbers in their ranges.
-use Rattle.std.specs.Prelude.{Bool, true, false, ◌&&◌, nat_le, length}
+use Rattle.std.specs.Prelude.{Bool, true, false, ◌&&◌, ℤ, pos, neg_ℤ, int_le, nat_le, length}
+use Rattle.std.specs.List.{list_all}
 use Rattle.ladder_tree.specs.Names.{is_name}
 use Rattle.ladder_tree.specs.declared.element.LeafKind.{LeafKind}
 use Rattle.ladder_tree.specs.declared.element.LeafKind.TheVariants.{Contacts, Coil, Osr, Osf, Short, Open, MasterRelay, Placeholder, Comment, Timer, Counter, Reset, Move, Math, Compare, Shift, Table, ReadAdc, SetPwm, Recv, Send, Persist, Linear, Formatted}
@@ -11,9 +12,13 @@ use Rattle.ld_line.specs.declared.pins.PinsLine.TheVariants as pins
 use Rattle.ld_line.specs.declared.header.HeaderLine.{HeaderLine}
 use Rattle.ld_line.specs.declared.header.HeaderLine.TheVariants as header
 
+-- a number of 16 bits with its sign
+abbrev pub is_integer : ℤ → Bool
+is_integer n = int_le (neg_ℤ (pos 32768)) n && int_le n (pos 32767)
+
 abbrev pub is_read_operand : Operand → Bool
 is_read_operand (Var name) = is_name name
-is_read_operand (Num n) = true
+is_read_operand (Num n) = is_integer n
 
 -- an element that a line can say
 abbrev pub is_read_kind : LeafKind → Bool
@@ -27,13 +32,13 @@ is_read_kind MasterRelay = true
 is_read_kind Placeholder = true
 is_read_kind (Comment text) = true
 is_read_kind (Timer how name delay) = is_name name && nat_le delay most_delay
-is_read_kind (Counter how name max) = is_name name
+is_read_kind (Counter how name max) = is_name name && is_integer max
 is_read_kind (Reset name) = is_name name
 is_read_kind (Move dest src) = is_name dest && is_read_operand src
 is_read_kind (Math how dest a b) = is_name dest && (is_read_operand a && is_read_operand b)
 is_read_kind (Compare how a b) = is_read_operand a && is_read_operand b
 is_read_kind (Shift name places) = is_name name && (nat_le 1 places && nat_le places most_items)
-is_read_kind (Table dest index as_text values) = is_name dest && (is_read_operand index && nat_le (length values) most_items)
+is_read_kind (Table dest index as_text values) = is_name dest && ((is_read_operand index && list_all is_integer values) && nat_le (length values) most_items)
 is_read_kind (ReadAdc name) = is_name name
 is_read_kind (SetPwm name hz) = is_name name && nat_le hz most_setting
 is_read_kind (Recv name) = is_name name

@@ -62,22 +62,15 @@ device_word token =
 abbrev pub word_of : List ℕ → Option Word
 word_of token = option_or (bit_word token) (option_or (time_word token) (option_or (math_word token) (option_or (compare_word token) (device_word token))))
 
--- relay logic: contacts, coils, and what needs no number
-abbrev pub is_bit_word : Word → Bool
-is_bit_word Contacts = true
-is_bit_word Coil = true
-is_bit_word Osr = true
-is_bit_word Osf = true
-is_bit_word Short = true
-is_bit_word Open = true
-is_bit_word Comment = true
-is_bit_word MasterRelay = true
-is_bit_word Placeholder = true
-is_bit_word _ = false
+-- what ladders are built of: all words but those that are not built for any target yet
+abbrev pub is_ladder_word : Word → Bool
+is_ladder_word FormattedString = false
+is_ladder_word PiecewiseLinear = false
+is_ladder_word _ = true
 
 -- the words that are built for a target
 abbrev pub is_built : Target → Word → Bool
-is_built Interp word = is_bit_word word
+is_built Interp word = is_ladder_word word
 is_built F628 word = false
 is_built F877 word = false
 is_built Mega16 word = false

@@ -48,6 +48,9 @@ fn reads_words(rt: HostRuntime) {
         assert_eq!(rt; word_of(token.as_bytes()), want, "at {token}");
     }
     assert!(rt; is_built(Target::Interp, Word::Coil));
+    assert!(rt; is_built(Target::Interp, Word::Ton));
+    assert!(rt; !is_built(Target::Interp, Word::FormattedString));
+    assert!(rt; !is_built(Target::Interp, Word::PiecewiseLinear));
     assert!(rt; !is_built(Target::F628, Word::Coil));
     assert!(rt; is_target_built(Target::Interp));
 }

@@ -1,7 +1,7 @@
 //! The words that elements begin with.
 
 ghost use Rattle.std.specs.Prelude.{◌≡◌};
-ghost use Rattle.ld_line.specs.Words.{bit_word, time_word, math_word, compare_word, device_word, word_of, is_bit_word, is_built, is_target_built};
+ghost use Rattle.ld_line.specs.Words.{bit_word, time_word, math_word, compare_word, device_word, word_of, is_ladder_word, is_built, is_target_built};
 
 use chip_tables::Target;
 
@@ -182,22 +182,11 @@ pub fn word_of(token: &[u8]) -> Option<Word>
     device_word(token)
 }
 
-/// Whether the word is one of relay logic, which needs no number.
-fn is_bit_word(word: Word) -> bool
-    ensures { result ≡ is_bit_word word }
+/// Whether ladders are built of the word: of all but those that are not built for any target yet.
+fn is_ladder_word(word: Word) -> bool
+    ensures { result ≡ is_ladder_word word }
 {
-    match word {
-        Word::Contacts
-        | Word::Coil
-        | Word::Osr
-        | Word::Osf
-        | Word::Short
-        | Word::Open
-        | Word::Comment
-        | Word::MasterRelay
-        | Word::Placeholder => true,
-        _ => false,
-    }
+    !matches!(word, Word::FormattedString | Word::PiecewiseLinear)
 }
 
 /// Whether the elements of the word are built for the target.
@@ -205,7 +194,7 @@ pub fn is_built(target: Target, word: Word) -> bool
     ensures { result ≡ is_built target word }
 {
     match target {
-        Target::Interp => is_bit_word(word),
+        Target::Interp => is_ladder_word(word),
         Target::F628 | Target::F877 | Target::Mega16 | Target::AnsiC => false,
     }
 }

@@ -7,6 +7,14 @@ use Rattle.std.proofs.lemmas.List.{reverse-append, length-reverse}
 use Rattle.chip_tables.specs.declared.target.Target.{Target}
 use Rattle.chip_tables.specs.declared.target.Target.TheVariants.{F628, F877, Mega16, Interp, AnsiC}
 use Rattle.ladder_tree.specs.declared.element.Leaf as leaf
+use Rattle.ladder_tree.specs.declared.element.TimerHow.{TimerHow}
+use Rattle.ladder_tree.specs.declared.element.TimerHow.TheVariants as timer
+use Rattle.ladder_tree.specs.declared.element.CounterHow.{CounterHow}
+use Rattle.ladder_tree.specs.declared.element.CounterHow.TheVariants as counter
+use Rattle.ladder_tree.specs.declared.element.MathHow.{MathHow}
+use Rattle.ladder_tree.specs.declared.element.MathHow.TheVariants as sum
+use Rattle.ladder_tree.specs.declared.element.CompareHow.{CompareHow}
+use Rattle.ladder_tree.specs.declared.element.CompareHow.TheVariants as test
 use Rattle.ladder_tree.specs.declared.element.LeafKind.{LeafKind}
 use Rattle.ladder_tree.specs.declared.element.LeafKind.TheVariants as kind
 use Rattle.ladder_tree.specs.declared.fault.ProjectFault.{ProjectFault}
@@ -14,15 +22,16 @@ use Rattle.ladder_tree.specs.declared.project.PinLine as pin
 use Rattle.ladder_tree.specs.Names.{is_name}
 use Rattle.ld_base.specs.Lines.{IsLine}
 use Rattle.ld_line.proofs.RangeLemmas.{in_their_ranges, pins_in_range, settings_in_range}
-use Rattle.ld_line.specs.Elements.{contacts, coil, element_of}
+use Rattle.ld_line.proofs.SaidLemmas.{said_so}
+use Rattle.ld_line.specs.Elements.{only_name, named, contacts, mode_from, coil, timer_of, counter_of, move, operand_pair, math, compare, shift, pwm, element_of}
 use Rattle.ld_line.specs.Header.{header_of}
-use Rattle.ld_line.specs.Numbers.{most_setting, most_pin, natural_in}
+use Rattle.ld_line.specs.Numbers.{most_delay, most_setting, most_items, most_pin, natural_in, integer}
 use Rattle.ld_line.specs.Operands as read
 use Rattle.ld_line.specs.Pins.{pin_line, pin_of_line}
 use Rattle.ld_line.specs.Range.{is_read_setting}
-use Rattle.ld_line.specs.Said.{bare, said_map, both}
+use Rattle.ld_line.specs.Said.{IfIs, bare, said_map, both}
 use Rattle.ld_line.specs.Tokens.{is_blank, is_return, behind, before, tokens, comment_text}
-use Rattle.ld_line.specs.Words.{word_of, is_bit_word, is_target_built}
+use Rattle.ld_line.specs.Words.{word_of, is_ladder_word, is_target_built}
 use Rattle.ld_line.specs.declared.said.Said.{Said}
 use Rattle.ld_line.specs.declared.said.Said.TheVariants.{Bad, Range, Is}
 use Rattle.ld_line.specs.declared.header.HeaderLine.{HeaderLine}
@@ -43,9 +52,12 @@ use Rattle.ld_text.specs.Place as place
 use Rattle.ld_text.specs.Faults.{is_first, has_unbuilt_word, begins_unbuilt, names_unbuilt, is_bad, is_out_of_range, is_too_deep, is_one_too_many, fault_of, fault_at, first_fault, or_else}
 use Rattle.ld_text.specs.Text.{unblanked, said_by}
 use Rattle.ld_text.proofs.TakenLemmas.{Passes, passes}
-use Rattle.ld_text.proofs.SaidLemmas.{AllowedAt, allowed, element_worded, worded_bits, IsBuilt}
+use Rattle.ld_text.proofs.SaidLemmas.{AllowedAt, allowed, element_worded}
 use Rattle.ld_print.proofs.TokenLemmas.{both_true, ends, ends-append}
-use Rattle.ld_print.proofs.ElementLemmas.{not_feed, clean_line, clean_both, FitsLine, TextFits, IsPrintable}
+use Rattle.ld_print.specs.Words.{behind_spaces}
+use Rattle.ld_print.proofs.LineLemmas.{not_feed, clean_line, clean_both}
+use Rattle.ld_print.proofs.ElementLemmas.{FitsLine, TextFits, IsPrintable}
+use Rattle.ld_print.proofs.ShorterLemmas.{table_fits, table_room}
 use Rattle.ld_print.proofs.HeadLemmas.{PinFits}
 
 -- a form that is said again where it is printed
@@ -149,67 +161,135 @@ comment_stays bytes short clean =
 
 -- elements
 
-text_mapped : {A : Type 0} (make : A → LeafKind) (x : Said A) (k : LeafKind) → ((a : A) → TextFits (make a)) → said_map make x ≡ Is k → TextFits k
-text_mapped make Bad k all h = absurd cc
-text_mapped make Range k all h = absurd cc
-text_mapped make (Is a) k all h = let same : make a ≡ k = cc in subst TextFits same (all a)
+made_text : {A : Type 0} (make : A → LeafKind) (x : Said A) → ((a : A) → TextFits (make a)) → IfIs (said_map make x) TextFits
+made_text make Bad all = tt
+made_text make Range all = tt
+made_text make (Is a) all = all a
 
-text_bare : (made : LeafKind) (ts : List (List ℕ)) (k : LeafKind) → TextFits made → bare made ts ≡ Is k → TextFits k
-text_bare made [] k f h = let same : made ≡ k = cc in subst TextFits same f
-text_bare made (t ∷ ts) k f h = absurd cc
+bare_text : (k : LeafKind) (ts : List (List ℕ)) → TextFits k → IfIs (bare k ts) TextFits
+bare_text k [] f = f
+bare_text k (t ∷ ts) f = tt
 
-text_contacts : (ts : List (List ℕ)) (k : LeafKind) → contacts ts ≡ Is k → TextFits k
-text_contacts [] k h = absurd cc
-text_contacts (n ∷ []) k h = absurd cc
-text_contacts (n ∷ f ∷ []) k h = text_mapped _ (both (read.name n) (read.flag f)) k (λ a. tt) h
-text_contacts (n ∷ f ∷ t ∷ ts) k h = absurd cc
+contacts_text : (ts : List (List ℕ)) → IfIs (contacts ts) TextFits
+contacts_text [] = tt
+contacts_text (n ∷ []) = tt
+contacts_text (n ∷ f ∷ []) = made_text _ (both (read.name n) (read.flag f)) (λ a. tt)
+contacts_text (n ∷ f ∷ t ∷ ts) = tt
 
-text_coil : (ts : List (List ℕ)) (k : LeafKind) → coil ts ≡ Is k → TextFits k
-text_coil [] k h = absurd cc
-text_coil (n ∷ []) k h = absurd cc
-text_coil (n ∷ a ∷ []) k h = absurd cc
-text_coil (n ∷ a ∷ b ∷ []) k h = absurd cc
-text_coil (n ∷ a ∷ b ∷ c ∷ []) k h = text_mapped _ _ k (λ x. tt) h
-text_coil (n ∷ a ∷ b ∷ c ∷ t ∷ ts) k h = absurd cc
+coil_text : (ts : List (List ℕ)) → IfIs (coil ts) TextFits
+coil_text [] = tt
+coil_text (n ∷ []) = tt
+coil_text (n ∷ a ∷ []) = tt
+coil_text (n ∷ a ∷ b ∷ []) = tt
+coil_text (n ∷ a ∷ b ∷ c ∷ []) = made_text _ (both (read.name n) (mode_from a b c)) (λ x. tt)
+coil_text (n ∷ a ∷ b ∷ c ∷ t ∷ ts) = tt
 
-text_fits : (w : Word) (ts : List (List ℕ)) (bytes : List ℕ) (k : LeafKind) → FitsLine (comment_text bytes) → is_bit_word w ≡ true → element_of w ts bytes ≡ Is k → TextFits k
-text_fits word.Contacts ts bytes k f b h = text_contacts ts k h
-text_fits word.Coil ts bytes k f b h = text_coil ts k h
-text_fits word.Osr ts bytes k f b h = text_bare kind.Osr ts k tt h
-text_fits word.Osf ts bytes k f b h = text_bare kind.Osf ts k tt h
-text_fits word.Short ts bytes k f b h = text_bare kind.Short ts k tt h
-text_fits word.Open ts bytes k f b h = text_bare kind.Open ts k tt h
-text_fits word.Comment ts bytes k f b h = let same : kind.Comment (comment_text bytes) ≡ k = cc in subst TextFits same f
-text_fits word.MasterRelay ts bytes k f b h = text_bare kind.MasterRelay ts k tt h
-text_fits word.Placeholder ts bytes k f b h = text_bare kind.Placeholder ts k tt h
-text_fits _ ts bytes k f b h = absurd cc
+timer_text : (how : TimerHow) (ts : List (List ℕ)) → IfIs (timer_of how ts) TextFits
+timer_text how [] = tt
+timer_text how (n ∷ []) = tt
+timer_text how (n ∷ d ∷ []) = made_text _ (both (read.name n) (natural_in 0 most_delay d)) (λ a. tt)
+timer_text how (n ∷ d ∷ t ∷ ts) = tt
 
-word_built : (o : Option Target) (w : Word) → has_unbuilt_word o (Some w) ≡ false → IsBuilt o × (is_bit_word w ≡ true)
-word_built None w h = (tt, is_true (is_bit_word w) h)
-  where
-    is_true : (b : Bool) → not b ≡ false → b ≡ true
-    is_true true h = refl
-    is_true false h = absurd cc
-word_built (Some Interp) w h = (refl, is_true (is_bit_word w) h)
-  where
-    is_true : (b : Bool) → not b ≡ false → b ≡ true
-    is_true true h = refl
-    is_true false h = absurd cc
+counter_text : (how : CounterHow) (ts : List (List ℕ)) → IfIs (counter_of how ts) TextFits
+counter_text how [] = tt
+counter_text how (n ∷ []) = tt
+counter_text how (n ∷ m ∷ []) = made_text _ (both (read.name n) (integer m)) (λ a. tt)
+counter_text how (n ∷ m ∷ t ∷ ts) = tt
+
+named_text : (make : List ℕ → LeafKind) (ts : List (List ℕ)) → ((n : List ℕ) → TextFits (make n)) → IfIs (named make ts) TextFits
+named_text make ts all = made_text make (only_name ts) all
+
+move_text : (ts : List (List ℕ)) → IfIs (move ts) TextFits
+move_text [] = tt
+move_text (n ∷ []) = tt
+move_text (n ∷ o ∷ []) = made_text _ (both (read.name n) (read.operand o)) (λ a. tt)
+move_text (n ∷ o ∷ t ∷ ts) = tt
+
+math_text : (how : MathHow) (ts : List (List ℕ)) → IfIs (math how ts) TextFits
+math_text how [] = tt
+math_text how (n ∷ []) = tt
+math_text how (n ∷ a ∷ []) = tt
+math_text how (n ∷ a ∷ b ∷ []) = made_text _ (both (read.name n) (operand_pair a b)) (λ x. tt)
+math_text how (n ∷ a ∷ b ∷ t ∷ ts) = tt
+
+compare_text : (how : CompareHow) (ts : List (List ℕ)) → IfIs (compare how ts) TextFits
+compare_text how [] = tt
+compare_text how (a ∷ []) = tt
+compare_text how (a ∷ b ∷ []) = made_text _ (operand_pair a b) (λ x. tt)
+compare_text how (a ∷ b ∷ t ∷ ts) = tt
+
+shift_text : (ts : List (List ℕ)) → IfIs (shift ts) TextFits
+shift_text [] = tt
+shift_text (n ∷ []) = tt
+shift_text (n ∷ k ∷ []) = made_text _ (both (read.name n) (natural_in 1 most_items k)) (λ a. tt)
+shift_text (n ∷ k ∷ t ∷ ts) = tt
+
+pwm_text : (ts : List (List ℕ)) → IfIs (pwm ts) TextFits
+pwm_text [] = tt
+pwm_text (n ∷ []) = tt
+pwm_text (n ∷ z ∷ []) = made_text _ (both (read.name n) (natural_in 0 most_setting z)) (λ a. tt)
+pwm_text (n ∷ z ∷ t ∷ ts) = tt
+
+text_fits : (w : Word) (ts : List (List ℕ)) (bytes : List ℕ) → FitsLine (comment_text bytes) → (Some w ≡ Some word.LookUpTable → length (behind_spaces ts) ≤ 499) → IfIs (element_of w ts bytes) TextFits
+text_fits word.Contacts ts bytes f r = contacts_text ts
+text_fits word.Coil ts bytes f r = coil_text ts
+text_fits word.Osr ts bytes f r = bare_text kind.Osr ts tt
+text_fits word.Osf ts bytes f r = bare_text kind.Osf ts tt
+text_fits word.Short ts bytes f r = bare_text kind.Short ts tt
+text_fits word.Open ts bytes f r = bare_text kind.Open ts tt
+text_fits word.Comment ts bytes f r = f
+text_fits word.MasterRelay ts bytes f r = bare_text kind.MasterRelay ts tt
+text_fits word.Placeholder ts bytes f r = bare_text kind.Placeholder ts tt
+text_fits word.Ton ts bytes f r = timer_text timer.Ton ts
+text_fits word.Tof ts bytes f r = timer_text timer.Tof ts
+text_fits word.Rto ts bytes f r = timer_text timer.Rto ts
+text_fits word.Ctu ts bytes f r = counter_text counter.Ctu ts
+text_fits word.Ctd ts bytes f r = counter_text counter.Ctd ts
+text_fits word.Ctc ts bytes f r = counter_text counter.Ctc ts
+text_fits word.Res ts bytes f r = named_text kind.Reset ts (λ n. tt)
+text_fits word.Move ts bytes f r = move_text ts
+text_fits word.Add ts bytes f r = math_text sum.Add ts
+text_fits word.Sub ts bytes f r = math_text sum.Sub ts
+text_fits word.Mul ts bytes f r = math_text sum.Mul ts
+text_fits word.Div ts bytes f r = math_text sum.Div ts
+text_fits word.Equ ts bytes f r = compare_text test.Equ ts
+text_fits word.Neq ts bytes f r = compare_text test.Neq ts
+text_fits word.Grt ts bytes f r = compare_text test.Grt ts
+text_fits word.Geq ts bytes f r = compare_text test.Geq ts
+text_fits word.Les ts bytes f r = compare_text test.Les ts
+text_fits word.Leq ts bytes f r = compare_text test.Leq ts
+text_fits word.ShiftRegister ts bytes f r = shift_text ts
+text_fits word.LookUpTable ts bytes f r = table_fits ts (r refl)
+text_fits word.ReadAdc ts bytes f r = named_text kind.ReadAdc ts (λ n. tt)
+text_fits word.SetPwm ts bytes f r = pwm_text ts
+text_fits word.UartRecv ts bytes f r = named_text kind.Recv ts (λ n. tt)
+text_fits word.UartSend ts bytes f r = named_text kind.Send ts (λ n. tt)
+text_fits word.Persist ts bytes f r = named_text kind.Persist ts (λ n. tt)
+text_fits word.FormattedString ts bytes f r = tt
+text_fits word.PiecewiseLinear ts bytes f r = tt
+
+printable : (number : ℕ) (bytes : List ℕ) (l : leaf.Leaf) → length bytes ≤ 512 → IsLine bytes → said_in site.Inside number bytes ≡ Is (Body (mark.Element l)) → IsPrintable l.kind
+printable number bytes l short clean h =
+    let w = element_worded number bytes l h in
+    let room : Some w.word ≡ Some word.LookUpTable → length (behind_spaces w.rest) ≤ 499 = λ e. table_room bytes w.token w.rest short w.tokens (w.known ∙ e) in
+    record {
+      read = in_their_ranges w.word w.rest bytes l.kind w.said;
+      text = said_so TextFits (element_of w.word w.rest bytes) l.kind w.said (text_fits w.word w.rest bytes (comment_stays bytes short clean) room);
+    }
+
+-- words that are built
+
+is_true : (b : Bool) → not b ≡ false → b ≡ true
+is_true true h = refl
+is_true false h = absurd cc
+
+word_built : (o : Option Target) (w : Word) → has_unbuilt_word o (Some w) ≡ false → is_ladder_word w ≡ true
+word_built None w h = is_true (is_ladder_word w) h
+word_built (Some Interp) w h = is_true (is_ladder_word w) h
 word_built (Some F628) w h = absurd cc
 word_built (Some F877) w h = absurd cc
 word_built (Some Mega16) w h = absurd cc
 word_built (Some AnsiC) w h = absurd cc
-
-printable : (o : Option Target) (number : ℕ) (bytes : List ℕ) (l : leaf.Leaf) → length bytes ≤ 512 → IsLine bytes → begins_unbuilt o (tokens bytes) ≡ false → said_in site.Inside number bytes ≡ Is (Body (mark.Element l)) → IsPrintable l.kind
-printable o number bytes l short clean free h =
-    let w = element_worded number bytes l h in
-    let known : has_unbuilt_word o (Some w.word) ≡ false = sym (ap (has_unbuilt_word o) w.known) ∙ sym (ap (begins_unbuilt o) w.tokens) ∙ free in
-    let b = word_built o w.word known in
-    record {
-      read = in_their_ranges w.word w.rest bytes l.kind w.said;
-      bits = worded_bits o bytes l.kind b.0 free w;
-      text = text_fits w.word w.rest bytes l.kind (comment_stays bytes short clean) b.1 w.said;
-    }
 
 -- settings and pins
 
@@ -260,7 +340,7 @@ name_first (n ∷ w ∷ k ∷ t ∷ ts) p h = absurd cc
 
 free_everywhere : (o : Option Target) (w : Option Word) → has_unbuilt_word o w ≡ false → has_unbuilt_word (Some Interp) w ≡ false
 free_everywhere o None h = refl
-free_everywhere o (Some w) h = ap not (word_built o w h).1
+free_everywhere o (Some w) h = ap not (word_built o w h)
 
 pin_fits : (o : Option Target) (bytes : List ℕ) (p : pin.PinLine) → begins_unbuilt o (tokens bytes) ≡ false → pin_of_line (tokens bytes) ≡ Is (pins.Pin p) → PinFits p
 pin_fits o bytes p free h =
@@ -309,10 +389,6 @@ seen p bytes size f e all =
     let k = or_false (begins_unbuilt p.target (tokens bytes)) (names_unbuilt (Is f)) (ap (λ b. not b && (begins_unbuilt p.target (tokens bytes) || names_unbuilt (Is f))) (sym e) ∙ all.built) in
     record { short = not_over 512 (length bytes) all.short; free = k.0; built = k.1 }
 
-is_true : (b : Bool) → not b ≡ false → b ≡ true
-is_true true h = refl
-is_true false h = absurd cc
-
 setting_fits : (p : Place) (number : ℕ) (bytes : List ℕ) (size : ℕ) (h : HeaderLine) → p.site ≡ site.Header → said_in p.site number bytes ≡ Is (Header h) → Passes p bytes size (Is (Header h)) → FormFits (Header h)
 setting_fits p number bytes size h e said all = by h (settings_in_range bytes h (header_says (tokens bytes) (header_of bytes) h (ap (λ x. said_in x number bytes) (sym e) ∙ said))) (seen p bytes size (Header h) (ap is_first e) all).built
   where
@@ -340,7 +416,7 @@ form_fits p number bytes size (Body mark.End) a said all clean = tt
 form_fits p number bytes size (Body (mark.Element l)) a said all clean =
     let e = at_element p.site l a in
     let s = seen p bytes size (Body (mark.Element l)) (ap is_first e) all in
-    printable p.target number bytes l s.short clean s.free (ap (λ x. said_in x number bytes) (sym e) ∙ said)
+    printable number bytes l s.short clean (ap (λ x. said_in x number bytes) (sym e) ∙ said)
 
 fine_line : (p : Place) (number : ℕ) (l : Line) (f : Form) → fault_at p number l ≡ None → said_at p number l ≡ Is f → IsLine l.bytes → Fine p f
 fine_line p number l f h said clean =

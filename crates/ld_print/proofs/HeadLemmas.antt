@@ -26,7 +26,8 @@ use Rattle.ld_print.specs.Printed as print
 use Rattle.ld_print.specs.Words.{behind_spaces}
 use Rattle.ld_print.proofs.TokenLemmas.{IsToken, tokens_printed, trimmed_token, tokens_token}
 use Rattle.ld_print.proofs.NumberLemmas.{decimal_token, natural_read}
-use Rattle.ld_print.proofs.ElementLemmas.{Fits, named, name_read, clean_token, clean_both}
+use Rattle.ld_print.proofs.LineLemmas.{Fits, clean_token, clean_both}
+use Rattle.ld_print.proofs.OperandLemmas.{name_short, name_read}
 
 pub record HeaderSaid (line : List ℕ) (f : Form) : Type 0 where
   pub said : (number : ℕ) → said_in site.Header number line ≡ Is f
@@ -90,7 +91,7 @@ pin_is p = ap (λ d. codes "    " ++ (p.name ++ (codes " at " ++ d))) (sym (appe
 
 pub pin_said : (p : pin.PinLine) → PinFits p → PinSaid (print.pin_line p) p
 pin_said p f =
-    let n = named p.name f.named in
+    let n = name_short p.name f.named in
     let d = decimal_token p.pin (omega (arith, f.number)) in
     let ts : tokens (print.pin_line p) ≡ p.name ∷ codes "at" ∷ decimal p.pin ∷ [] = ap tokens (pin_is p) ∙ tokens_printed 4 p.name (codes "at" ∷ decimal p.pin ∷ []) n.token (at_token, (d, tt)) in
     let short : length (print.pin_line p) ≤ 100 = omega (arith, length-append p.name (codes " at " ++ decimal p.pin), length-append (codes " at ") (decimal p.pin), n.short, length-decimal-le 3 p.pin (omega arith) (omega (arith, f.number)) (omega (arith, f.number))) in

@@ -1,7 +1,11 @@
 pub mod JoinedLemmas
 pub mod TokenLemmas
 pub mod NumberLemmas
+pub mod LineLemmas
+pub mod OperandLemmas
+pub mod KindLemmas
 pub mod ElementLemmas
+pub mod ShorterLemmas
 pub mod HeadLemmas
 pub mod FineLemmas
 pub mod HeadFacts

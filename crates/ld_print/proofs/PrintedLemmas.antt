@@ -33,7 +33,8 @@ use Rattle.ld_text.specs.Text.{IsReadAs, said_by}
 use Rattle.ld_print.specs.Printed as print
 use Rattle.ld_print.specs.SameButLines.{SameButLines}
 use Rattle.ld_print.specs.Words.{element_words}
-use Rattle.ld_print.proofs.ElementLemmas.{not_feed, is_line, clean_both, element_fits}
+use Rattle.ld_print.proofs.LineLemmas.{not_feed, is_line, clean_both}
+use Rattle.ld_print.proofs.ElementLemmas.{element_fits}
 use Rattle.ld_print.proofs.HeadLemmas.{HeaderSaid, micro_said, cycle_said, crystal_said, baud_said, pin_said}
 use Rattle.ld_print.proofs.FineLemmas.{Fine, AllFine}
 use Rattle.ld_print.proofs.HeadFacts.{place_in, AllPinsFit}

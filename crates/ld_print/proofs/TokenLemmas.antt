@@ -1,5 +1,5 @@
 -- The tokens of lines that are printed.
-use Rattle.std.proofs.Common.{◌≡◌, ◌≢◌, ◌==◌, ◌&&◌, ℕ, suc, zero, ◌<◌, Bool, true, false, not, if◌then◌else◌, List, [], ◌∷◌, ◌++◌, length, reverse, refl, sym, ap, ◌∙◌, arith, append-nil}
+use Rattle.std.proofs.Common.{◌≡◌, ◌≢◌, ◌==◌, ◌&&◌, ℕ, suc, zero, ◌+◌, ◌*◌, ◌<◌, ◌≤◌, Bool, true, false, not, if◌then◌else◌, List, [], ◌∷◌, ◌++◌, length, reverse, refl, sym, ap, ◌∙◌, arith, append-nil, length-append}
 use Rattle.std.specs.Prelude.{filter, replicate}
 use Rattle.std.specs.List.{list_all}
 use Rattle.std.proofs.lemmas.Bool.Decides.{nat_tests}
@@ -76,6 +76,26 @@ runs_indent (suc n) xs = runs_indent n xs
 abbrev pub AllTokens : List (List ℕ) → Type 0
 AllTokens [] = Unit {0}
 AllTokens (t ∷ ts) = IsToken t × AllTokens ts
+
+-- a token of up to 64 bytes, as names, flags and numbers are
+pub record IsShort (t : List ℕ) : Type 0 where
+  pub token : IsToken t
+  pub short : length t ≤ 64
+
+abbrev pub AllShort : List (List ℕ) → Type 0
+AllShort [] = Unit {0}
+AllShort (t ∷ ts) = IsShort t × AllShort ts
+
+pub short_tokens : (ts : List (List ℕ)) → AllShort ts → AllTokens ts
+short_tokens [] h = tt
+short_tokens (t ∷ ts) h = (h.0.token, short_tokens ts h.1)
+
+pub length-behind_spaces : (t : List ℕ) (ts : List (List ℕ)) → length (behind_spaces (t ∷ ts)) ≡ 1 + (length t + length (behind_spaces ts))
+length-behind_spaces t ts = ap suc (length-append t (behind_spaces ts)) ∙ omega arith
+
+pub short_behind : (ts : List (List ℕ)) → AllShort ts → length (behind_spaces ts) ≤ 65 * length ts
+short_behind [] h = omega arith
+short_behind (t ∷ ts) h = omega (arith, length-behind_spaces t ts, h.0.short, short_behind ts h.1)
 
 pub runs_tokens : (t : List ℕ) (ts : List (List ℕ)) → IsToken t → AllTokens ts → runs (t ++ behind_spaces ts) ≡ t ∷ ts
 runs_tokens t [] h g = ap runs (append-nil t) ∙ runs_last t h

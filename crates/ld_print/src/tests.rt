@@ -429,6 +429,167 @@ fn prints_what_was_read(rt: HostRuntime) -> Result<(), Fail> {
     Ok(())
 }
 
+/// Every element and every form of an operand, as hands write them.
+const EVERY: &str = "LDmicro0.1
+MICRO=Interpretable
+CYCLE=10000
+PROGRAM
+RUNG
+CONTACTS Xa 0
+CONTACTS\tRb 1
+OSR
+OSF
+SHORT
+OPEN
+MASTER_RELAY
+PLACEHOLDER
+COMMENT 1 + 1
+COIL Ya 0 0 0
+COIL Yb 1 0 0
+COIL Rc 0 1 0
+COIL Rc 0 0 1
+END
+RUNG
+TON Ta 0
+TOF Tb 0030000
+RTO Tc 2147483647
+CTU Ca 32767
+CTD Cb -32768
+CTC Cc -0
+RES Ta
+END
+RUNG
+MOVE a b
+MOVE a -00012
+ADD a 'z' 1
+SUB a b -1
+MUL a 007 b
+DIV a '!' '~'
+EQU a 0
+NEQ 1 a
+GRT a '''
+GEQ -1 b
+LES a b
+LEQ 32767 -32768
+END
+RUNG
+SHIFT_REGISTER s 060
+LOOK_UP_TABLE d i 3 0 32767 -02 -32768
+LOOK_UP_TABLE d 'A' 01 1 65
+LOOK_UP_TABLE d 2  0 0
+READ_ADC a
+SET_PWM a 999999999
+UART_RECV a
+UART_SEND a
+PERSIST a
+END
+";
+
+const EVERY_PRINTED: &str = "LDmicro0.1
+MICRO=Interpretable Byte Code
+CYCLE=10000
+CRYSTAL=4000000
+BAUD=2400
+
+IO LIST
+END
+
+PROGRAM
+RUNG
+    CONTACTS Xa 0
+    CONTACTS Rb 1
+    OSR
+    OSF
+    SHORT
+    OPEN
+    MASTER_RELAY
+    PLACEHOLDER
+    COMMENT 1 + 1
+    COIL Ya 0 0 0
+    COIL Yb 1 0 0
+    COIL Rc 0 1 0
+    COIL Rc 0 0 1
+END
+RUNG
+    TON Ta 0
+    TOF Tb 30000
+    RTO Tc 2147483647
+    CTU Ca 32767
+    CTD Cb -32768
+    CTC Cc 0
+    RES Ta
+END
+RUNG
+    MOVE a b
+    MOVE a -12
+    ADD a 122 1
+    SUB a b -1
+    MUL a 7 b
+    DIV a 33 126
+    EQU a 0
+    NEQ 1 a
+    GRT a 39
+    GEQ -1 b
+    LES a b
+    LEQ 32767 -32768
+END
+RUNG
+    SHIFT_REGISTER s 60
+    LOOK_UP_TABLE d i 3 0 32767 -2 -32768
+    LOOK_UP_TABLE d 65 1 1 65
+    LOOK_UP_TABLE d 2 0 0
+    READ_ADC a
+    SET_PWM a 999999999
+    UART_RECV a
+    UART_SEND a
+    PERSIST a
+END
+";
+
+#[test]
+fn prints_every_element_that_was_read(rt: HostRuntime) -> Result<(), Fail> {
+    let alloc = rt.alloc();
+    for text in [EVERY, EVERY_PRINTED] {
+        let project = read_project(alloc, text.as_bytes())?;
+        let printed = write_project(alloc, &project)?;
+        assert_eq!(rt; printed.as_slice(), EVERY_PRINTED.as_bytes());
+    }
+    Ok(())
+}
+
+/// The part so many times.
+fn repeated(alloc: Global, part: &str, times: u32) -> Result<String, AllocError> {
+    let mut text = String::new(alloc);
+    for _ in 0..times {
+        text.push_str(part)?;
+    }
+    Ok(text)
+}
+
+/// The line of a table with the longest names, 60 values, and 512 bytes.
+fn long_table(alloc: Global) -> Result<String, AllocError> {
+    let dest = repeated(alloc, "d", 64)?;
+    let index = repeated(alloc, "i", 64)?;
+    let values = repeated(alloc, " 12345", 56)?;
+    let last = repeated(alloc, " -12345", 4)?;
+    format!(in alloc; "LOOK_UP_TABLE {dest} {index} 60 0{values}{last}")
+}
+
+const TOP: &str =
+    "LDmicro0.1\nMICRO=Interpretable Byte Code\nCYCLE=10000\nCRYSTAL=4000000\nBAUD=2400\n\nIO LIST\nEND\n\nPROGRAM\nRUNG\n";
+
+#[test]
+fn a_table_of_512_bytes_is_read_where_it_is_printed(rt: HostRuntime) -> Result<(), Fail> {
+    let alloc = rt.alloc();
+    let table = long_table(alloc)?;
+    assert_eq!(rt; table.len(), 512);
+    let text = format!(in alloc; "{TOP}{table}\nEND\n")?;
+    let project = read_project(alloc, text.as_bytes())?;
+    let printed = write_project(alloc, &project)?;
+    assert_eq!(rt; printed.as_slice(), text.as_bytes());
+    Ok(())
+}
+
 /// A comment's line and its indent of four, or none.
 fn comment_line(alloc: Global, count: usize, indent: &str) -> Result<bool, AllocError> {
     let mut text = String::new(alloc);

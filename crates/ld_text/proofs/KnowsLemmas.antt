@@ -1,5 +1,5 @@
 -- What a reader has read spells what the lines said, and keeps the limits.
-use Rattle.std.proofs.Common.{◌≡◌, ℕ, ◌+◌, ◌-◌, ◌<◌, ◌≤◌, Bool, true, false, not, cond, eqb, ◌&&◌, ◌||◌, List, [], ◌∷◌, ◌++◌, length, map, Option, Some, None, is_some, refl, sym, ap, subst, ◌∙◌, arith, append_assoc, append-nil, length-append, lit≤}
+use Rattle.std.proofs.Common.{◌≡◌, ℕ, ◌+◌, ◌-◌, ◌≤◌, Bool, true, false, not, cond, eqb, ◌&&◌, ◌||◌, List, [], ◌∷◌, ◌++◌, length, map, Option, Some, None, is_some, refl, sym, ap, subst, ◌∙◌, arith, append_assoc, append-nil, length-append, lit≤}
 use Rattle.std.specs.List.{list_all}
 use Rattle.std.proofs.lemmas.List.{map-append}
 use Rattle.std.proofs.lemmas.List.Folds.{list_all-append}
@@ -16,8 +16,7 @@ use Rattle.ld_line.specs.Words.{is_target_built}
 use Rattle.ld_line.specs.declared.header.HeaderLine.{HeaderLine}
 use Rattle.ld_line.specs.declared.header.HeaderLine.TheVariants as header
 use Rattle.ld_line.specs.declared.pins.PinsLine.TheVariants as pins
-use Rattle.ld_line.specs.declared.said.Said.{Said}
-use Rattle.ld_line.specs.declared.said.Said.TheVariants.{Bad, Range, Is}
+use Rattle.ld_line.specs.declared.said.Said.TheVariants.{Is}
 use Rattle.ld_line.proofs.RangeLemmas.{in_their_ranges, settings_in_range}
 use Rattle.ld_text.specs.declared.draft.Frame.{Frame}
 use Rattle.ld_text.specs.declared.draft.Settings.{Settings}
@@ -29,26 +28,25 @@ use Rattle.ld_text.specs.declared.place.Place.{Place}
 use Rattle.ld_text.specs.declared.place.Site.{Site}
 use Rattle.ld_text.specs.declared.place.Site.TheVariants as site
 use Rattle.ld_text.specs.Lines.{Line, size_of}
-use Rattle.ld_text.specs.Place.{said_in, said_at, behind, behind_said, behind_mark}
-use Rattle.ld_text.specs.Faults.{begins_unbuilt, names_unbuilt, is_chipless, is_first, fault_of}
-use Rattle.ld_text.specs.Spelling.{Item, Chip, Cycle, Crystal, Baud, Compiled, PinSection, joined, pin_forms, spelled, spelled_item, spelled_items, defaults, with_item, with_items}
+use Rattle.ld_text.specs.Place.{said_in, behind, behind_said, behind_mark}
+use Rattle.ld_text.specs.Faults.{begins_unbuilt, is_chipless, is_first, fault_of}
+use Rattle.ld_text.specs.Spelling.{Item, Chip, Cycle, Crystal, Baud, Compiled, PinSection, joined, pin_forms, spelled_item, spelled_items, defaults, with_item, with_items}
 use Rattle.ld_text.specs.Text.{unblanked, said_by}
-use Rattle.ladder_tree.specs.BitWords as bits
-use Rattle.ld_text.specs.Reading.{Tree, Closed, Building, ended, grown, with_form, settings_behind, RoomFor, HasRoom, Standing, first, standing_behind, Taken, Goes, Stops, taken}
+use Rattle.ld_text.specs.Reading.{Tree, Closed, Building, ended, grown, with_form, settings_behind, RoomFor, Standing, first, standing_behind, Taken, Goes, Stops, taken}
 use Rattle.ld_text.proofs.TakenLemmas.{Passes, Went, goes, passes, room}
 use Rattle.ld_text.proofs.TreeGrowth.{so_far, Suits, so_far-grown, IsShallow, shallow_grown, depth_at, MayOpen, leaves_of, opens, begins, leaves_of-append, opens-append, begins-append}
-use Rattle.ld_text.proofs.SaidLemmas.{AllowedAt, allowed, header_said, element_worded, worded_bits, IsBuilt}
+use Rattle.ld_text.proofs.SaidLemmas.{AllowedAt, allowed, header_said, element_worded, IsBuilt}
 use Rattle.ld_text.proofs.RunLemmas.{then, run}
 
--- an element that lines can say, and of relay logic
-abbrev pub is_good : leaf.Leaf → Bool
-is_good l = is_read_kind l.kind && bits.is_bit_word l.kind
+-- an element that lines can say
+abbrev pub is_read : leaf.Leaf → Bool
+is_read l = is_read_kind l.kind
 
-abbrev IsGood : Mark → Type 0
-IsGood (mark.Element l) = is_good l ≡ true
-IsGood mark.Rung = Unit {0}
-IsGood (mark.Open c) = Unit {0}
-IsGood mark.End = Unit {0}
+abbrev IsRead : Mark → Type 0
+IsRead (mark.Element l) = is_read l ≡ true
+IsRead mark.Rung = Unit {0}
+IsRead (mark.Open c) = Unit {0}
+IsRead mark.End = Unit {0}
 
 -- the place counts the lines of the tree
 pub record Counts (p : Place) (t : Tree) : Type 0 where
@@ -60,7 +58,7 @@ pub record Counts (p : Place) (t : Tree) : Type 0 where
   pub few_openings : p.openings ≤ 4000
   pub depth : depth_at t ≡ p.depth
   pub shallow : IsShallow t
-  pub good : list_all is_good (leaves_of (so_far t)) ≡ true
+  pub read : list_all is_read (leaves_of (so_far t)) ≡ true
 
 no_depth : (k n : ℕ) → k ≡ n + 1 → eqb k 0 ≡ false
 no_depth k n h = grind (arith, nat_tests)
@@ -105,9 +103,9 @@ record Adds (p : Place) (m : Mark) (ms : List Mark) : Type 0 where
   few_elements : (behind_mark p m).elements ≤ 4000
   openings : opens (ms ++ m ∷ []) ≡ (behind_mark p m).openings
   few_openings : (behind_mark p m).openings ≤ 4000
-  good : list_all is_good (leaves_of (ms ++ m ∷ [])) ≡ true
+  read : list_all is_read (leaves_of (ms ++ m ∷ [])) ≡ true
 
-adds : (p : Place) (m : Mark) (t : Tree) → Counts p t → RoomFor p (Body m) → IsGood m → Adds p m (so_far t)
+adds : (p : Place) (m : Mark) (t : Tree) → Counts p t → RoomFor p (Body m) → IsRead m → Adds p m (so_far t)
 adds p mark.Rung t c r g = record {
   rungs = omega (arith, begins-append (so_far t) (mark.Rung ∷ []), c.rungs);
   few_rungs = omega (arith, r);
@@ -115,7 +113,7 @@ adds p mark.Rung t c r g = record {
   few_elements = c.few_elements;
   openings = omega (arith, opens-append (so_far t) (mark.Rung ∷ []), c.openings);
   few_openings = c.few_openings;
-  good = ap (list_all is_good) (leaves_of-append (so_far t) (mark.Rung ∷ []) ∙ append-nil (leaves_of (so_far t))) ∙ c.good;
+  read = ap (list_all is_read) (leaves_of-append (so_far t) (mark.Rung ∷ []) ∙ append-nil (leaves_of (so_far t))) ∙ c.read;
 }
 adds p (mark.Open x) t c r g = record {
   rungs = omega (arith, begins-append (so_far t) (mark.Open x ∷ []), c.rungs);
@@ -124,7 +122,7 @@ adds p (mark.Open x) t c r g = record {
   few_elements = c.few_elements;
   openings = omega (arith, opens-append (so_far t) (mark.Open x ∷ []), c.openings);
   few_openings = omega (arith, r.1);
-  good = ap (list_all is_good) (leaves_of-append (so_far t) (mark.Open x ∷ []) ∙ append-nil (leaves_of (so_far t))) ∙ c.good;
+  read = ap (list_all is_read) (leaves_of-append (so_far t) (mark.Open x ∷ []) ∙ append-nil (leaves_of (so_far t))) ∙ c.read;
 }
 adds p mark.End t c r g =
     let same = end_same p (eqb p.depth 0) in
@@ -135,7 +133,7 @@ adds p mark.End t c r g =
       few_elements = omega (arith, same.1, c.few_elements);
       openings = omega (arith, opens-append (so_far t) (mark.End ∷ []), c.openings, same.2);
       few_openings = omega (arith, same.2, c.few_openings);
-      good = ap (list_all is_good) (leaves_of-append (so_far t) (mark.End ∷ []) ∙ append-nil (leaves_of (so_far t))) ∙ c.good;
+      read = ap (list_all is_read) (leaves_of-append (so_far t) (mark.End ∷ []) ∙ append-nil (leaves_of (so_far t))) ∙ c.read;
     }
 adds p (mark.Element l) t c r g = record {
   rungs = omega (arith, begins-append (so_far t) (mark.Element l ∷ []), c.rungs);
@@ -144,13 +142,13 @@ adds p (mark.Element l) t c r g = record {
   few_elements = omega (arith, r);
   openings = omega (arith, opens-append (so_far t) (mark.Element l ∷ []), c.openings);
   few_openings = c.few_openings;
-  good = ap (list_all is_good) (leaves_of-append (so_far t) (mark.Element l ∷ [])) ∙ list_all-append is_good (leaves_of (so_far t)) (l ∷ []) ∙ both (list_all is_good (leaves_of (so_far t))) (is_good l) c.good g;
+  read = ap (list_all is_read) (leaves_of-append (so_far t) (mark.Element l ∷ [])) ∙ list_all-append is_read (leaves_of (so_far t)) (l ∷ []) ∙ both (list_all is_read (leaves_of (so_far t))) (is_read l) c.read g;
 }
   where
     both : (a b : Bool) → a ≡ true → b ≡ true → (a && (b && true)) ≡ true
     both a b h e = rw (h, e) refl
 
-counts_grown : (p : Place) (t : Tree) (m : Mark) → Counts p t → Suits t m → RoomFor p (Body m) → IsGood m → Counts (behind_mark p m) (grown t m)
+counts_grown : (p : Place) (t : Tree) (m : Mark) → Counts p t → Suits t m → RoomFor p (Body m) → IsRead m → Counts (behind_mark p m) (grown t m)
 counts_grown p t m c s r g =
     let a = adds p m t c r g in
     let grew = so_far-grown t m s in
@@ -163,7 +161,7 @@ counts_grown p t m c s r g =
       few_openings = a.few_openings;
       depth = depth_grown p t m s c.depth;
       shallow = shallow_grown t m c.shallow (may_open p t m c.depth r);
-      good = ap (λ ms. list_all is_good (leaves_of ms)) grew ∙ a.good;
+      read = ap (λ ms. list_all is_read (leaves_of ms)) grew ∙ a.read;
     }
 
 -- the place behind a line of no rung counts the same
@@ -177,7 +175,7 @@ same_counts p q t a b c d h = record {
   few_openings = omega (arith, c, h.few_openings);
   depth = h.depth ∙ sym d;
   shallow = h.shallow;
-  good = h.good;
+  read = h.read;
 }
 
 -- what was read above PROGRAM
@@ -237,7 +235,7 @@ pub record Knows (fs : List Form) (s : Standing) : Type 0 where
 pub at_first : Knows [] first
 at_first = record {
   spelled = (refl, refl, refl);
-  counts = record { rungs = refl; few_rungs = omega arith; elements = refl; few_elements = omega arith; openings = refl; few_openings = omega arith; depth = refl; shallow = omega arith; good = refl };
+  counts = record { rungs = refl; few_rungs = omega arith; elements = refl; few_elements = omega arith; openings = refl; few_openings = omega arith; depth = refl; shallow = omega arith; read = refl };
   target = refl;
   built = tt;
   timed = lit≤ tt;
@@ -307,10 +305,6 @@ or_right : (a b : Bool) → (a || b) ≡ false → b ≡ false
 or_right true b h = absurd cc
 or_right false b h = h
 
-or_left : (a b : Bool) → (a || b) ≡ false → a ≡ false
-or_left true b h = absurd cc
-or_left false b h = refl
-
 not_first : (x : Site) → (x ≡ site.First → ⊥) → not (is_first x) ≡ true
 not_first site.First h = absurd (h refl)
 not_first site.Header h = refl
@@ -335,13 +329,8 @@ has_chip : (o : Option Target) → is_chipless o (Is (Header header.Program)) �
 has_chip None h = absurd cc
 has_chip (Some t) h = refl
 
-element_good : (s : Standing) (number : ℕ) (bytes : List ℕ) (size : ℕ) (l : leaf.Leaf) → s.place.site ≡ site.Inside → IsBuilt s.place.target → said_in site.Inside number bytes ≡ Is (Body (mark.Element l)) → Passes s.place bytes size (Is (Body (mark.Element l))) → is_good l ≡ true
-element_good s number bytes size l e b h p =
-    let w = element_worded number bytes l h in
-    let rows = ap (λ x. not (is_first x) && (begins_unbuilt s.place.target (tokens bytes) || false)) (sym e) ∙ p.built in
-    let bits = worded_bits s.place.target bytes l.kind b (or_left (begins_unbuilt s.place.target (tokens bytes)) false rows) w in
-    let read = in_their_ranges w.word w.rest bytes l.kind w.said in
-    rw (read, bits) refl
+element_read : (number : ℕ) (bytes : List ℕ) (l : leaf.Leaf) → said_in site.Inside number bytes ≡ Is (Body (mark.Element l)) → is_read l ≡ true
+element_read number bytes l h = let w = element_worded number bytes l h in in_their_ranges w.word w.rest bytes l.kind w.said
 
 abbrev with_pins : Settings → List pin.PinLine → Settings
 with_pins s ls = record s { pins = ls }
@@ -459,15 +448,15 @@ suits_at site.Between fs s mark.End k a = absurd a
 suits_at site.Between fs s (mark.Element l) k a = absurd a
 suits_at site.Inside fs s m k a = suits_open s.tree m k.1 a
 
-good_at : (x : Site) (s : Standing) (number : ℕ) (bytes : List ℕ) (size : ℕ) (m : Mark) → s.place.site ≡ x → IsBuilt s.place.target → said_in x number bytes ≡ Is (Body m) → AllowedAt x (Body m) → Passes s.place bytes size (Is (Body m)) → IsGood m
-good_at x s number bytes size mark.Rung e b h a p = tt
-good_at x s number bytes size (mark.Open c) e b h a p = tt
-good_at x s number bytes size mark.End e b h a p = tt
-good_at site.First s number bytes size (mark.Element l) e b h a p = absurd a
-good_at site.Header s number bytes size (mark.Element l) e b h a p = absurd a
-good_at site.Pins s number bytes size (mark.Element l) e b h a p = absurd a
-good_at site.Between s number bytes size (mark.Element l) e b h a p = absurd a
-good_at site.Inside s number bytes size (mark.Element l) e b h a p = element_good s number bytes size l e b h p
+read_at : (x : Site) (number : ℕ) (bytes : List ℕ) (m : Mark) → said_in x number bytes ≡ Is (Body m) → AllowedAt x (Body m) → IsRead m
+read_at x number bytes mark.Rung h a = tt
+read_at x number bytes (mark.Open c) h a = tt
+read_at x number bytes mark.End h a = tt
+read_at site.First number bytes (mark.Element l) h a = absurd a
+read_at site.Header number bytes (mark.Element l) h a = absurd a
+read_at site.Pins number bytes (mark.Element l) h a = absurd a
+read_at site.Between number bytes (mark.Element l) h a = absurd a
+read_at site.Inside number bytes (mark.Element l) h a = element_read number bytes l h
 
 -- the counts, the target and its being built, behind a line
 pub record Kept (t : Standing) : Type 0 where
@@ -520,7 +509,7 @@ kept_behind s number bytes size fs (Header header.Program) k h a p r = same_plac
 kept_behind s number bytes size fs (Pins (pins.Pin l)) k h a p r = same_place s size (Pins (pins.Pin l)) (kept_of fs s k) refl refl refl refl refl refl refl
 kept_behind s number bytes size fs (Pins pins.End) k h a p r = same_place s size (Pins pins.End) (kept_of fs s k) refl refl refl refl refl refl refl
 kept_behind s number bytes size fs (Body m) k h a p r =
-    let grew = counts_grown s.place s.tree m k.counts (suits_at s.place.site fs s m k.spelled a) r (good_at s.place.site s number bytes size m refl k.built h a p) in
+    let grew = counts_grown s.place s.tree m k.counts (suits_at s.place.site fs s m k.spelled a) r (read_at s.place.site number bytes m h a) in
     record {
       counts = same_counts (behind_mark s.place m) (standing_behind size s (Body m)).place (grown s.tree m) refl refl refl refl grew;
       target = k.target ∙ sym (mark_target s.place m);

@@ -1,7 +1,6 @@
 -- What is spelled is read back, so lines spell one project at most.
-use Rattle.std.proofs.Common.{◌≡◌, ℕ, List, [], ◌∷◌, ◌++◌, map, Some, refl, sym, ap, ◌∙◌, append_assoc, append-nil}
-use Rattle.ladder_tree.specs.declared.element.Leaf as leaf
-use Rattle.ladder_tree.specs.declared.project.Node.{Node, Leaf}
+use Rattle.std.proofs.Common.{◌≡◌, List, [], ◌∷◌, ◌++◌, map, Some, refl, sym, ap, ◌∙◌, append_assoc, append-nil}
+use Rattle.ladder_tree.specs.declared.project.Node.{Node}
 use Rattle.ladder_tree.specs.declared.project.PinLine as pin
 use Rattle.ladder_tree.specs.declared.project.Project.{Project}
 use Rattle.ladder_tree.specs.declared.project.Rung.{Rung}
@@ -10,12 +9,11 @@ use Rattle.ld_line.specs.declared.header.HeaderLine.TheVariants as header
 use Rattle.ld_line.specs.declared.pins.PinsLine.TheVariants as pins
 use Rattle.ld_line.specs.declared.rungs.Circuit.{Circuit}
 use Rattle.ld_line.specs.declared.rungs.Circuit.TheVariants as circuit
-use Rattle.ld_line.specs.declared.said.Said.{Said}
 use Rattle.ld_line.specs.declared.said.Said.TheVariants.{Is}
 use Rattle.ld_text.specs.declared.draft.Frame.{Frame}
 use Rattle.ld_text.specs.declared.draft.Settings.{Settings}
 use Rattle.ld_text.specs.declared.form.Form.{Form}
-use Rattle.ld_text.specs.declared.form.Form.TheVariants.{Magic, Header, Pins, Body}
+use Rattle.ld_text.specs.declared.form.Form.TheVariants.{Header, Pins, Body}
 use Rattle.ld_text.specs.declared.form.Mark.{Mark}
 use Rattle.ld_text.specs.declared.form.Mark.TheVariants as mark
 use Rattle.ld_text.specs.Lines.{Line}

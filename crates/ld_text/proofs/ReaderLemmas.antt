@@ -1,5 +1,5 @@
 -- What a reader answers that stands where a text takes it.
-use Rattle.std.proofs.Common.{◌≡◌, ℕ, List, [], ◌++◌, Option, Some, None, Result, Ok, Err, IfOk, IfErr, ◌⊎◌, inl, inr, refl, sym, ap, subst, ◌∙◌}
+use Rattle.std.proofs.Common.{◌≡◌, ℕ, List, ◌++◌, Some, None, Result, Ok, Err, IfOk, IfErr, ◌⊎◌, inl, inr, sym, ap, subst, ◌∙◌}
 use Rattle.ladder_tree.specs.declared.fault.ProjectFault.{ProjectFault}
 use Rattle.ladder_tree.specs.declared.project.Project.{Project}
 use Rattle.ld_text.specs.declared.fault.TextError.{TextError}
@@ -8,7 +8,7 @@ use Rattle.ld_text.specs.declared.reader.State.{State}
 use Rattle.ld_text.specs.declared.reader.State.TheVariants as state
 use Rattle.ld_text.specs.Text.{IsReadAs, IsCause, text_fault, early_fault}
 use Rattle.ld_text.specs.Within.{IsWithin}
-use Rattle.ld_text.specs.Reading.{Mind, Reads, Refuses, Accepts, Rejects, fed, fresh, finished, mind_of, mind_at, failure_of, IsRejected}
+use Rattle.ld_text.specs.Reading.{Mind, Refuses, Accepts, fed, fresh, finished, mind_of, mind_at, failure_of, IsRejected}
 use Rattle.ld_text.proofs.FedLemmas.{fed_append}
 use Rattle.ld_text.proofs.VerdictLemmas.{IsVerdict, verdict, IsEarly, early, early_is_final}
 

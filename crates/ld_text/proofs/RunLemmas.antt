@@ -1,19 +1,16 @@
 -- Bytes take a reader where the lines of the text take it.
-use Rattle.std.proofs.Common.{◌≡◌, ◌≢◌, ℕ, ◌+◌, ◌-◌, ◌^◌, ◌<◌, ◌≤◌, min, Bool, true, false, cond, ltb, eqb, List, [], ◌∷◌, ◌++◌, length, All, Option, Some, None, refl, sym, ap, subst, ◌∙◌, arith, append_assoc, append-nil, length-append, lit≤}
+use Rattle.std.proofs.Common.{◌≡◌, ◌≢◌, ℕ, ◌+◌, ◌<◌, ◌≤◌, Bool, true, false, cond, ltb, eqb, List, [], ◌∷◌, ◌++◌, length, Option, Some, None, refl, sym, ap, subst, ◌∙◌, arith, append_assoc, append-nil, length-append, lit≤}
 use Rattle.std.proofs.lemmas.Bool.Decides.{nat_tests}
 use Rattle.std.proofs.lemmas.List.Elements.{All-head, All-tail, All-append, All-nil, All-cons}
 use Rattle.ladder_tree.specs.declared.fault.ProjectFault.{ProjectFault}
 use Rattle.ladder_tree.specs.declared.fault.ProjectFault.TheVariants.{LineTooLong}
 use Rattle.ld_base.specs.Lines.{IsLine, pieces, onto}
 use Rattle.ld_base.proofs.LineLemmas.{pieces-piece, pieces-last}
-use Rattle.ld_line.specs.declared.said.Said.{Said}
-use Rattle.ld_text.specs.declared.form.Form.{Form}
-use Rattle.ld_text.specs.declared.place.Place.{Place}
-use Rattle.ld_text.specs.Lines.{Line, size_of, ended, last_of, open_line, ended_lines, behind_feeds, lines_of}
-use Rattle.ld_text.specs.Place.{said_in, said_at, behind_said, behind, behind_all, start}
-use Rattle.ld_text.specs.Faults.{most_line, most_text, fault_of, fault_at, first_fault, or_else, end_fault}
+use Rattle.ld_text.specs.Lines.{Line, size_of, ended, last_of, ended_lines, behind_feeds}
+use Rattle.ld_text.specs.Place.{behind_said, behind, behind_all}
+use Rattle.ld_text.specs.Faults.{most_text, fault_of, first_fault, or_else}
 use Rattle.ld_text.specs.Text.{early_length}
-use Rattle.ld_text.specs.Reading.{Standing, Taken, Goes, Stops, Mind, Reads, Refuses, taken, taken_as, line_done, pushed, next, fed, fed_byte, first, standing_behind}
+use Rattle.ld_text.specs.Reading.{Standing, Taken, Goes, Stops, Mind, Reads, Refuses, taken, line_done, pushed, next, fed}
 use Rattle.ld_text.proofs.TakenLemmas.{Went, goes, stops, room}
 use Rattle.ld_text.proofs.FedLemmas.{fed_refused}
 

@@ -1,20 +1,15 @@
 -- What lines can say at a place, and what is known of the elements that they say.
-use Rattle.std.proofs.Common.{◌≡◌, ℕ, Bool, true, false, not, cond, eqb, length, ◌&&◌, ◌||◌, List, [], ◌∷◌, Option, Some, None, refl, sym, ap, subst, ◌∙◌}
+use Rattle.std.proofs.Common.{◌≡◌, ℕ, Bool, true, false, cond, eqb, length, List, [], ◌∷◌, Option, Some, None, refl, sym, ap, subst, ◌∙◌}
 use Rattle.chip_tables.specs.declared.target.Target.{Target}
-use Rattle.chip_tables.specs.declared.target.Target.TheVariants.{Interp, F628, F877, Mega16, AnsiC}
 use Rattle.ladder_tree.specs.declared.element.Leaf as leaf
 use Rattle.ladder_tree.specs.declared.element.LeafKind.{LeafKind}
-use Rattle.ladder_tree.specs.declared.element.LeafKind.TheVariants as kind
-use Rattle.ladder_tree.specs.declared.element.CoilMode.{CoilMode}
-use Rattle.ld_line.specs.Elements.{contacts, coil, comment, element_of}
+use Rattle.ld_line.specs.Elements.{element_of}
 use Rattle.ld_line.specs.Header.{header_of}
-use Rattle.ld_line.specs.Operands.{name, flag}
 use Rattle.ld_line.specs.Pins.{pin_of_line}
-use Rattle.ld_line.specs.Range.{is_read_kind}
-use Rattle.ld_line.specs.Rungs.{alone, alone_or, element_by, rung_tokens_say, rung_line_of}
-use Rattle.ld_line.specs.Said.{bare, said_map, said_then, both}
-use Rattle.ld_line.specs.Tokens.{tokens, is_magic, comment_text}
-use Rattle.ld_line.specs.Words.{word_of, is_built, is_bit_word, is_target_built}
+use Rattle.ld_line.specs.Rungs.{alone_or, element_by, rung_tokens_say, rung_line_of}
+use Rattle.ld_line.specs.Said.{said_map}
+use Rattle.ld_line.specs.Tokens.{tokens, is_magic}
+use Rattle.ld_line.specs.Words.{word_of, is_target_built}
 use Rattle.ld_line.specs.declared.said.Said.{Said}
 use Rattle.ld_line.specs.declared.said.Said.TheVariants.{Bad, Range, Is}
 use Rattle.ld_line.specs.declared.header.HeaderLine.{HeaderLine}
@@ -23,16 +18,12 @@ use Rattle.ld_line.specs.declared.rungs.Circuit.TheVariants as circuit
 use Rattle.ld_line.specs.declared.rungs.RungLine.{RungLine}
 use Rattle.ld_line.specs.declared.rungs.RungLine.TheVariants as rung
 use Rattle.ld_line.specs.declared.word.Word.{Word}
-use Rattle.ld_line.specs.declared.word.Word.TheVariants as word
-use Rattle.ld_text.specs.declared.form.Mark.{Mark}
 use Rattle.ld_text.specs.declared.form.Mark.TheVariants as mark
 use Rattle.ld_text.specs.declared.form.Form.{Form}
 use Rattle.ld_text.specs.declared.form.Form.TheVariants.{Blank, Magic, Header, Pins, Body}
 use Rattle.ld_text.specs.declared.place.Site.{Site}
 use Rattle.ld_text.specs.declared.place.Site.TheVariants as site
-use Rattle.ld_text.specs.Faults.{begins_unbuilt, has_unbuilt_word, is_word_built}
 use Rattle.ld_text.specs.Place.{unless_blank, between, inside, said_in}
-use Rattle.ladder_tree.specs.BitWords as bits
 
 -- the forms that lines can say at a part of a text
 abbrev pub AllowedAt : Site → Form → Type 0
@@ -167,66 +158,10 @@ inside_element number (t ∷ ts) Range l h = absurd cc
 pub element_worded : (number : ℕ) (bytes : List ℕ) (l : leaf.Leaf) → said_in site.Inside number bytes ≡ Is (Body (mark.Element l)) → Worded bytes l.kind
 element_worded number bytes l h = rung_worded (tokens bytes) bytes l.kind refl (inside_element number (tokens bytes) (rung_line_of bytes) l h)
 
--- the elements of relay logic
-
-mapped_bits : {A : Type 0} (make : A → LeafKind) (x : Said A) (k : LeafKind) → ((a : A) → bits.is_bit_word (make a) ≡ true) → said_map make x ≡ Is k → bits.is_bit_word k ≡ true
-mapped_bits make Bad k all h = absurd cc
-mapped_bits make Range k all h = absurd cc
-mapped_bits make (Is a) k all h = let same : make a ≡ k = cc in ap bits.is_bit_word (sym same) ∙ all a
-
-bare_bits : (made : LeafKind) (ts : List (List ℕ)) (k : LeafKind) → bits.is_bit_word made ≡ true → bare made ts ≡ Is k → bits.is_bit_word k ≡ true
-bare_bits made [] k b h = let same : made ≡ k = cc in ap bits.is_bit_word (sym same) ∙ b
-bare_bits made (t ∷ ts) k b h = absurd cc
-
-contacts_bits : (ts : List (List ℕ)) (k : LeafKind) → contacts ts ≡ Is k → bits.is_bit_word k ≡ true
-contacts_bits [] k h = absurd cc
-contacts_bits (n ∷ []) k h = absurd cc
-contacts_bits (n ∷ f ∷ []) k h = mapped_bits _ (both (name n) (flag f)) k (λ a. refl) h
-contacts_bits (n ∷ f ∷ t ∷ ts) k h = absurd cc
-
-coil_bits : (ts : List (List ℕ)) (k : LeafKind) → coil ts ≡ Is k → bits.is_bit_word k ≡ true
-coil_bits [] k h = absurd cc
-coil_bits (n ∷ []) k h = absurd cc
-coil_bits (n ∷ a ∷ []) k h = absurd cc
-coil_bits (n ∷ a ∷ b ∷ []) k h = absurd cc
-coil_bits (n ∷ a ∷ b ∷ c ∷ []) k h = mapped_bits _ _ k (λ x. refl) h
-coil_bits (n ∷ a ∷ b ∷ c ∷ t ∷ ts) k h = absurd cc
-
-element_bits : (w : Word) (ts : List (List ℕ)) (bytes : List ℕ) (k : LeafKind) → is_bit_word w ≡ true → element_of w ts bytes ≡ Is k → bits.is_bit_word k ≡ true
-element_bits word.Contacts ts bytes k b h = contacts_bits ts k h
-element_bits word.Coil ts bytes k b h = coil_bits ts k h
-element_bits word.Osr ts bytes k b h = bare_bits kind.Osr ts k refl h
-element_bits word.Osf ts bytes k b h = bare_bits kind.Osf ts k refl h
-element_bits word.Short ts bytes k b h = bare_bits kind.Short ts k refl h
-element_bits word.Open ts bytes k b h = bare_bits kind.Open ts k refl h
-element_bits word.Comment ts bytes k b h = let same : kind.Comment (comment_text bytes) ≡ k = cc in ap bits.is_bit_word (sym same)
-element_bits word.MasterRelay ts bytes k b h = bare_bits kind.MasterRelay ts k refl h
-element_bits word.Placeholder ts bytes k b h = bare_bits kind.Placeholder ts k refl h
-element_bits _ ts bytes k b h = absurd cc
-
 -- the target is none, or one that is built
 abbrev pub IsBuilt : Option Target → Type 0
 IsBuilt None = Unit {0}
 IsBuilt (Some t) = is_target_built t ≡ true
-
-built_bits : (o : Option Target) (w : Word) → IsBuilt o → is_word_built o w ≡ true → is_bit_word w ≡ true
-built_bits None w b h = h
-built_bits (Some Interp) w b h = h
-built_bits (Some F628) w b h = absurd cc
-built_bits (Some F877) w b h = absurd cc
-built_bits (Some Mega16) w b h = absurd cc
-built_bits (Some AnsiC) w b h = absurd cc
-
-not_false : (b : Bool) → not b ≡ false → b ≡ true
-not_false true h = refl
-not_false false h = absurd cc
-
--- where the line does not begin with a word that is not built, its element is one of relay logic
-pub worded_bits : (o : Option Target) (bytes : List ℕ) (k : LeafKind) → IsBuilt o → begins_unbuilt o (tokens bytes) ≡ false → Worded bytes k → bits.is_bit_word k ≡ true
-worded_bits o bytes k b h w =
-    let begins : has_unbuilt_word o (word_of w.token) ≡ false = ap (begins_unbuilt o) (sym w.tokens) ∙ h in
-    let unbuilt : not (is_word_built o w.word) ≡ false = ap (has_unbuilt_word o) (sym w.known) ∙ begins in
-    element_bits w.word w.rest bytes k (built_bits o w.word b (not_false (is_word_built o w.word) unbuilt)) w.said
 
 -- what a line above PROGRAM says that has tokens
 pub said_in-header : (x : Site) (number : ℕ) (bytes : List ℕ) (ts : List (List ℕ)) → x ≡ site.Header → ts ≡ tokens bytes → eqb (length ts) 0 ≡ false → said_in x number bytes ≡ said_map Header (header_of bytes)

@@ -1,5 +1,5 @@
 -- What is known of a line that has no fault, and of one that stops the reader.
-use Rattle.std.proofs.Common.{◌≡◌, ℕ, ◌+◌, ◌<◌, ◌≤◌, Bool, true, false, not, cond, ltb, leb, ◌&&◌, ◌||◌, List, [], ◌∷◌, length, Option, Some, None, refl, sym, ap, ◌∙◌, arith}
+use Rattle.std.proofs.Common.{◌≡◌, ℕ, ◌+◌, ◌<◌, ◌≤◌, Bool, true, false, not, cond, ltb, leb, ◌&&◌, ◌||◌, List, length, Option, Some, None, refl, sym, ap, ◌∙◌, arith}
 use Rattle.std.proofs.lemmas.Bool.Decides.{nat_tests}
 use Rattle.ladder_tree.specs.declared.fault.ProjectFault.{ProjectFault}
 use Rattle.ld_line.specs.Tokens.{tokens}
@@ -12,7 +12,7 @@ use Rattle.ld_text.specs.declared.form.Form.TheVariants.{Blank, Magic, Header, P
 use Rattle.ld_text.specs.declared.place.Place.{Place}
 use Rattle.ld_text.specs.Place.{said_in}
 use Rattle.ld_text.specs.Faults.{fault_of, most_line, most_text, most_depth, most_rungs, most_lines, is_first, is_bad, is_out_of_range, begins_unbuilt, names_unbuilt, is_chipless, is_too_deep, is_one_too_many}
-use Rattle.ld_text.specs.Reading.{Standing, Taken, Goes, Stops, RoomFor, HasRoom, taken, taken_as, standing_behind}
+use Rattle.ld_text.specs.Reading.{Standing, Goes, Stops, RoomFor, HasRoom, taken, taken_as, standing_behind}
 
 none_of : (b : Bool) (f : ProjectFault) (rest : Option ProjectFault) → cond b (Some f) rest ≡ None → (b ≡ false) × (rest ≡ None)
 none_of true f rest h = absurd cc

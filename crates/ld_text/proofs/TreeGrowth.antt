@@ -1,7 +1,5 @@
 -- How a tree grows by the lines of rungs: its spelling by the line, and its counts by one.
-use Rattle.std.proofs.Common.{◌≡◌, ℕ, ◌+◌, ◌<◌, ◌≤◌, Bool, true, false, ◌&&◌, List, [], ◌∷◌, ◌++◌, length, map, sum, refl, sym, ap, subst, ◌∙◌, arith, append_assoc, append-nil, length-append}
-use Rattle.std.specs.List.{list_all}
-use Rattle.std.proofs.lemmas.List.Folds.{list_all-append}
+use Rattle.std.proofs.Common.{◌≡◌, ℕ, ◌+◌, ◌<◌, ◌≤◌, List, [], ◌∷◌, ◌++◌, length, map, refl, sym, ap, ◌∙◌, arith, append_assoc, append-nil}
 use Rattle.std.proofs.lemmas.List.Sums.{sum_by-cons}
 use Rattle.ladder_tree.specs.declared.element.Leaf as leaf
 use Rattle.ladder_tree.specs.declared.project.Node.{Node, Leaf}
@@ -10,7 +8,6 @@ use Rattle.ladder_tree.specs.Induct.{Each, node_ind}
 use Rattle.ladder_tree.specs.Leaves.{leaves, leaves_in, all_leaves, depth_of, depth_in, depth_of_all}
 use Rattle.ld_line.specs.declared.rungs.Circuit.{Circuit}
 use Rattle.ld_line.specs.declared.rungs.Circuit.TheVariants as circuit
-use Rattle.ld_line.specs.Range.{is_read_kind}
 use Rattle.ld_text.specs.declared.form.Mark.{Mark}
 use Rattle.ld_text.specs.declared.form.Mark.TheVariants as mark
 use Rattle.ld_text.specs.declared.draft.Frame.{Frame}

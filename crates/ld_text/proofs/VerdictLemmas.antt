@@ -1,35 +1,29 @@
 -- The answer of a reader is the verdict of the text.
-use Rattle.std.proofs.Common.{◌≡◌, ◌≢◌, ℕ, ◌+◌, ◌<◌, ◌≤◌, Bool, true, false, cond, ltb, ◌&&◌, List, [], ◌∷◌, ◌++◌, length, map, All, Option, Some, None, is_some, refl, sym, ap, subst, ◌∙◌, arith, append_assoc, length-append, lit≤, take, length-take}
+use Rattle.std.proofs.Common.{◌≡◌, ◌≢◌, ℕ, ◌+◌, ◌≤◌, Bool, true, false, cond, ltb, List, [], ◌∷◌, ◌++◌, length, map, Option, Some, None, is_some, refl, sym, ap, subst, ◌∙◌, arith, length-append, lit≤, take, length-take}
 use Rattle.std.specs.List.{list_all}
 use Rattle.std.proofs.lemmas.Bool.Decides.{nat_tests}
 use Rattle.std.proofs.lemmas.List.{take_all}
 use Rattle.std.proofs.lemmas.List.Elements.{All-nil}
 use Rattle.chip_tables.specs.declared.target.Target.{Target}
-use Rattle.ladder_tree.specs.declared.element.Leaf as leaf
 use Rattle.ladder_tree.specs.declared.fault.ProjectFault.{ProjectFault}
 use Rattle.ladder_tree.specs.declared.fault.ProjectFault.TheVariants.{LineTooLong}
-use Rattle.ladder_tree.specs.declared.project.Project.{Project}
 use Rattle.ladder_tree.specs.declared.project.Rung.{Rung}
-use Rattle.ladder_tree.specs.Leaves.{all_leaves}
-use Rattle.ld_line.specs.Range.{is_read_kind}
 use Rattle.ld_line.specs.declared.said.Said.TheVariants.{Is}
-use Rattle.ld_text.specs.declared.form.Form.{Form}
 use Rattle.ld_text.specs.declared.form.Form.TheVariants.{Magic, Header, Body}
 use Rattle.ld_text.specs.declared.place.Site.{Site}
 use Rattle.ld_text.specs.declared.place.Site.TheVariants as site
 use Rattle.ld_text.specs.Lines.{Line, size_of, open_line, ended_lines, behind_feeds, lines_of}
-use Rattle.ld_text.specs.Place.{start, behind_all, said_in}
-use Rattle.ld_text.specs.Faults.{most_line, most_text, fault_of, first_fault, or_else, end_fault}
-use Rattle.ld_text.specs.Spelling.{defaults, with_items, spelled_items}
+use Rattle.ld_text.specs.Place.{start, behind_all}
+use Rattle.ld_text.specs.Faults.{most_line, most_text, first_fault, or_else, end_fault}
+use Rattle.ld_text.specs.Spelling.{spelled_items}
 use Rattle.ld_line.specs.declared.header.HeaderLine.TheVariants as header
-use Rattle.ld_text.specs.Text.{IsProject, IsReadAs, text_fault, early_fault, early_length, project_of, judged}
+use Rattle.ld_text.specs.Text.{IsReadAs, text_fault, early_fault, early_length, project_of, judged}
 use Rattle.ld_text.specs.Within.{IsWithin}
-use Rattle.ladder_tree.specs.BitWords as bits
-use Rattle.ld_text.specs.Reading.{Tree, Closed, Building, Standing, first, Taken, Goes, Stops, taken, taken_as, Mind, Reads, Refuses, next, fed, fresh, Verdict, Accepts, Rejects, project_at, ended_as, at_end, finished}
+use Rattle.ld_text.specs.Reading.{Tree, Closed, Building, Standing, first, Taken, Goes, Stops, taken, Mind, Reads, Refuses, next, fed, fresh, Verdict, Accepts, Rejects, project_at, ended_as, at_end, finished}
 use Rattle.ld_text.proofs.TreeGrowth.{rungs_counted, so_far}
-use Rattle.ld_text.proofs.RunLemmas.{then, run, early_run, Far, FedTo, fed_to, run_goes, run_stops}
+use Rattle.ld_text.proofs.RunLemmas.{then, run, early_run, FedTo, fed_to, run_goes, run_stops}
 use Rattle.ld_text.proofs.SaidLemmas.{IsBuilt}
-use Rattle.ld_text.proofs.KnowsLemmas.{Counts, Knows, KnowsAt, InBody, IsClosed, at_first, told, is_good}
+use Rattle.ld_text.proofs.KnowsLemmas.{Counts, KnowsAt, InBody, IsClosed, at_first, told, is_read}
 
 run-append : (n : ℕ) (xs ys : List Line) (s : Standing) → run n (xs ++ ys) s ≡ then (run (n + length xs) ys) (run n xs s)
 run-append n [] ys s = let k : n ≡ n + 0 = omega arith in ap (λ k. run k ys s) k
@@ -94,16 +88,6 @@ abbrev pub IsVerdict : List ℕ → Verdict → Type 0
 IsVerdict text (Accepts p) = IsReadAs text p × IsWithin p
 IsVerdict text (Rejects f) = text_fault text ≡ Some f
 
-all_and : (p q : leaf.Leaf → Bool) (ls : List leaf.Leaf) → list_all (λ l. p l && q l) ls ≡ true → (list_all p ls ≡ true) × (list_all q ls ≡ true)
-all_and p q [] h = (refl, refl)
-all_and p q (l ∷ ls) h = by (p l) (q l) (list_all (λ l. p l && q l) ls) refl refl refl h (λ e. all_and p q ls e)
-  where
-    by : (a b c : Bool) → p l ≡ a → q l ≡ b → list_all (λ l. p l && q l) ls ≡ c → ((a && b) && c) ≡ true → (list_all (λ l. p l && q l) ls ≡ true → (list_all p ls ≡ true) × (list_all q ls ≡ true)) → (list_all p (l ∷ ls) ≡ true) × (list_all q (l ∷ ls) ≡ true)
-    by true true true e f g h rec = let r = rec g in (rw e r.0, rw f r.1)
-    by true true false e f g h rec = absurd cc
-    by true false c e f g h rec = absurd cc
-    by false b c e f g h rec = absurd cc
-
 -- a text whose lines lead to the space between rungs is a project's
 accepted : (text : List ℕ) (t : Standing) (gs : List Rung) (chip : Target) → run 1 (lines_of text) first ≡ Goes t → t.place.site ≡ site.Between → t.tree ≡ Closed gs → t.settings.target ≡ Some chip → IsReadAs text (project_of t.settings chip gs) × IsWithin (project_of t.settings chip gs)
 accepted text t gs chip h e f g =
@@ -111,8 +95,7 @@ accepted text t gs chip h e f g =
     let k = told 1 (lines_of text) first t [] at_first h in
     let body : InBody k.more t × IsClosed t.tree = subst (λ x. KnowsAt x k.more t) e k.knows.spelled in
     let counts : Counts t.place (Closed gs) = subst (Counts t.place) f k.knows.counts in
-    let counted = rungs_counted gs in
-    let good = all_and (λ l. is_read_kind l.kind) (λ l. bits.is_bit_word l.kind) (all_leaves gs) (ap (list_all is_good) (sym counted.elements) ∙ counts.good) in (
+    let counted = rungs_counted gs in (
       record {
         faultless = ap (λ x. or_else x (end_fault (behind_all start 1 (lines_of text)).site (length (lines_of text) + 1))) lines.0 ∙ ap (λ x. end_fault x.site (length (lines_of text) + 1)) lines.1 ∙ ap (λ x. end_fault x (length (lines_of text) + 1)) e;
         project = record {
@@ -129,8 +112,7 @@ accepted text t gs chip h e f g =
         elements = omega (arith, ap length counted.elements, counts.elements, counts.few_elements);
         forms = omega (arith, counted.opens, counts.openings, counts.few_openings);
         depth = counts.shallow;
-        read = good.0;
-        bits = good.1;
+        read = ap (list_all is_read) (sym counted.elements) ∙ counts.read;
       },
     )
 

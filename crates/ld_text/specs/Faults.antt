@@ -9,18 +9,16 @@ use Rattle.ld_line.specs.Words.{word_of, is_built, is_target_built}
 use Rattle.ld_line.specs.declared.said.Said.{Said}
 use Rattle.ld_line.specs.declared.said.Said.TheVariants.{Bad, Range, Is}
 use Rattle.ld_line.specs.declared.word.Word.{Word}
-use Rattle.ld_line.specs.declared.header.HeaderLine.{HeaderLine}
 use Rattle.ld_line.specs.declared.header.HeaderLine.TheVariants as header
 use Rattle.ld_line.specs.declared.pins.PinsLine.TheVariants as pins
-use Rattle.ld_text.specs.declared.form.Mark.{Mark}
 use Rattle.ld_text.specs.declared.form.Mark.TheVariants as mark
 use Rattle.ld_text.specs.declared.form.Form.{Form}
-use Rattle.ld_text.specs.declared.form.Form.TheVariants.{Blank, Magic, Header, Pins, Body}
+use Rattle.ld_text.specs.declared.form.Form.TheVariants.{Header, Pins, Body}
 use Rattle.ld_text.specs.declared.place.Place.{Place}
 use Rattle.ld_text.specs.declared.place.Site.{Site}
 use Rattle.ld_text.specs.declared.place.Site.TheVariants as site
 use Rattle.ld_text.specs.Lines.{Line, size_of}
-use Rattle.ld_text.specs.Place.{start, said_at, behind, behind_all}
+use Rattle.ld_text.specs.Place.{said_at, behind}
 
 -- bytes of a line
 abbrev pub most_line : ℕ

@@ -1,8 +1,5 @@
 -- Where a line stands: what the lines in front of it opened, how many of each kind there were, and what a line says there.
-use Rattle.std.specs.Prelude.{ℕ, ◌+◌, ◌-◌, ◌==◌, Bool, true, false, List, [], ◌∷◌, length, Option, None, Some, if◌then◌else◌}
-use Rattle.chip_tables.specs.declared.target.Target.{Target}
-use Rattle.ladder_tree.specs.declared.element.Leaf as leaf
-use Rattle.ladder_tree.specs.declared.element.LeafKind.{LeafKind}
+use Rattle.std.specs.Prelude.{ℕ, ◌+◌, ◌-◌, ◌==◌, List, [], ◌∷◌, None, Some, if◌then◌else◌}
 use Rattle.ld_line.specs.Said.{said_map}
 use Rattle.ld_line.specs.Tokens.{tokens, is_magic}
 use Rattle.ld_line.specs.Header.{header_of}

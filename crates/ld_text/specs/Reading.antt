@@ -1,5 +1,5 @@
 -- Reading a text byte by byte: where a reader stands, and where a byte takes it.
-use Rattle.std.specs.Prelude.{◌≡◌, ⊤, alloc_error, ℕ, ◌+◌, ◌<◌, ◌≤◌, ◌^◌, ◌-◌, ◌==◌, Bool, true, false, min, nat_lt, List, [], ◌∷◌, ◌++◌, length, reverse, Option, None, Some, Result, Ok, Err, if◌then◌else◌}
+use Rattle.std.specs.Prelude.{◌≡◌, ⊤, alloc_error, ℕ, ◌+◌, ◌<◌, ◌≤◌, ◌^◌, ◌-◌, ◌==◌, min, nat_lt, List, [], ◌∷◌, ◌++◌, length, reverse, Option, None, Some, Result, Ok, Err, if◌then◌else◌}
 use Rattle.chip_tables.specs.declared.target.Target.{Target}
 use Rattle.ladder_tree.specs.declared.fault.ProjectFault.{ProjectFault}
 use Rattle.ladder_tree.specs.declared.fault.ProjectFault.TheVariants.{BadLine, NumberRange, Unclosed, LineTooLong}
@@ -8,7 +8,6 @@ use Rattle.ladder_tree.specs.declared.project.Project.{Project}
 use Rattle.ladder_tree.specs.declared.project.Rung.{Rung}
 use Rattle.ld_line.specs.declared.said.Said.{Said}
 use Rattle.ld_line.specs.declared.said.Said.TheVariants.{Bad, Range, Is}
-use Rattle.ld_line.specs.declared.header.HeaderLine.{HeaderLine}
 use Rattle.ld_line.specs.declared.header.HeaderLine.TheVariants as header
 use Rattle.ld_line.specs.declared.pins.PinsLine.TheVariants as pins
 use Rattle.ld_line.specs.declared.rungs.Circuit.{Circuit}

@@ -1,8 +1,7 @@
--- What a project keeps that a text stands for: its limits, and that each element is one that lines can say and that is built.
+-- What a project keeps that a text stands for: its limits, and that each element is one that lines can say.
 use Rattle.std.specs.Prelude.{◌≡◌, ◌≤◌, true, length}
 use Rattle.std.specs.List.{list_all}
 use Rattle.ladder_tree.specs.declared.project.Project.{Project}
-use Rattle.ladder_tree.specs.BitWords.{all_bit_words}
 use Rattle.ladder_tree.specs.Forms.{forms_of_all}
 use Rattle.ladder_tree.specs.Leaves.{all_leaves, depth_of_all}
 use Rattle.ld_line.specs.Numbers.{most_setting}
@@ -18,4 +17,3 @@ pub record IsWithin (p : Project) : Type 0 where
   pub forms : forms_of_all p.rungs ≤ most_lines
   pub depth : depth_of_all p.rungs ≤ most_depth
   pub read : list_all (λ l. is_read_kind l.kind) (all_leaves p.rungs) ≡ true
-  pub bits : all_bit_words (all_leaves p.rungs) ≡ true

@@ -81,7 +81,8 @@ fn whole_texts(rt: HostRuntime) -> Result<(), Fail> {
         ("LDmicro0.1\nPROGRAM\n", (7, 2)),
         ("LDmicro0.1\nMICRO= Interpretable\nPROGRAM", (0, 0)),
         ("LDmicro0.1\nMICRO=Interpretable\nMICRO=x\n", (7, 3)),
-        ("LDmicro0.1\nTON Ta 1\n", (27, 2)),
+        ("LDmicro0.1\nTON Ta 1\n", (2, 2)),
+        ("LDmicro0.1\nFORMATTED_STRING n 0\n", (27, 2)),
         ("LDmicro0.1\n\0\n", (2, 2)),
     ];
     for (text, want) in rows {
@@ -103,7 +104,8 @@ fn lines_of_the_header(rt: HostRuntime) -> Result<(), Fail> {
         ("IO LIST\nXa at 256\n", (8, 8)),
         ("IO LIST\nXa on 1\n", (2, 8)),
         ("IO LIST\n9a at 1\n", (2, 8)),
-        ("IO LIST\nPERSIST p\n", (27, 8)),
+        ("IO LIST\nPERSIST p\n", (2, 8)),
+        ("IO LIST\nPIECEWISE_LINEAR at 1\n", (27, 8)),
         ("END\n", (2, 7)),
         ("PROGRAM\nCYCLE=1\n", (2, 8)),
         ("PROGRAM\nEND\n", (2, 8)),
@@ -129,7 +131,8 @@ fn lines_of_rungs(rt: HostRuntime) -> Result<(), Fail> {
         ("OSR 1\n", (2, 12)),
         ("OSR\r \n", (2, 12)),
         ("FORMATTED_STRING n 0\n", (27, 12)),
-        ("ADD a b c d\n", (27, 12)),
+        ("PIECEWISE_LINEAR a b 1 0 0\n", (27, 12)),
+        ("ADD a b c d\n", (2, 12)),
         ("PARALLEL x\n", (2, 12)),
         ("SERIES\nPARALLEL\nEND\n", (6, 15)),
         ("WIRE\n", (2, 12)),
@@ -137,6 +140,164 @@ fn lines_of_rungs(rt: HostRuntime) -> Result<(), Fail> {
     for (lines, want) in rows {
         let found = in_rung(rt.alloc(), lines)?;
         assert_eq!(rt; found, want, "at {lines:?}");
+    }
+    Ok(())
+}
+
+/// The fault of a rung that has one line, which is line 12 of the text.
+fn of_line(alloc: Global, line: &str) -> Result<(u8, u32), AllocError> {
+    in_rung(alloc, joined(alloc, &[line, "\nEND\n"])?.as_str())
+}
+
+#[test]
+fn lines_of_relays(rt: HostRuntime) -> Result<(), Fail> {
+    let lines = [
+        "CONTACTS Xa 1",
+        "COIL Ya 0 0 1",
+        "OSR",
+        "OSF",
+        "SHORT",
+        "OPEN",
+        "MASTER_RELAY",
+        "PLACEHOLDER",
+        "COMMENT",
+        "COMMENT stop and go",
+    ];
+    for line in lines {
+        assert_eq!(rt; of_line(rt.alloc(), line)?, (0, 0), "at {line}");
+    }
+    Ok(())
+}
+
+#[test]
+fn lines_of_timers_and_counters(rt: HostRuntime) -> Result<(), Fail> {
+    let lines = [
+        "TON Ta 0",
+        "TOF Ta 2147483647",
+        "RTO Ta 0030000",
+        "CTU Ca 32767",
+        "CTD Ca -32768",
+        "CTC Ca 0",
+        "RES Ta",
+    ];
+    for line in lines {
+        assert_eq!(rt; of_line(rt.alloc(), line)?, (0, 0), "at {line}");
+    }
+    Ok(())
+}
+
+#[test]
+fn lines_of_arithmetic(rt: HostRuntime) -> Result<(), Fail> {
+    let lines = [
+        "MOVE a b",
+        "MOVE a -32768",
+        "MOVE a 'x'",
+        "ADD a b 1",
+        "SUB a '!' b",
+        "MUL a -2 003",
+        "DIV a '~' '''",
+    ];
+    for line in lines {
+        assert_eq!(rt; of_line(rt.alloc(), line)?, (0, 0), "at {line}");
+    }
+    Ok(())
+}
+
+#[test]
+fn lines_of_comparisons(rt: HostRuntime) -> Result<(), Fail> {
+    let lines = [
+        "EQU a 1",
+        "NEQ 1 a",
+        "GRT a b",
+        "GEQ -1 'x'",
+        "LES 32767 a",
+        "LEQ a -0",
+    ];
+    for line in lines {
+        assert_eq!(rt; of_line(rt.alloc(), line)?, (0, 0), "at {line}");
+    }
+    Ok(())
+}
+
+#[test]
+fn lines_of_lists_and_devices(rt: HostRuntime) -> Result<(), Fail> {
+    let lines = [
+        "SHIFT_REGISTER s 1",
+        "SHIFT_REGISTER s 60",
+        "LOOK_UP_TABLE d i 3 0 32767 -32768 5",
+        "LOOK_UP_TABLE d 'A' 1 1 7",
+        "LOOK_UP_TABLE d 2 0 0",
+        "READ_ADC a",
+        "SET_PWM a 999999999",
+        "UART_RECV a",
+        "UART_SEND a",
+        "PERSIST a",
+    ];
+    for line in lines {
+        assert_eq!(rt; of_line(rt.alloc(), line)?, (0, 0), "at {line}");
+    }
+    Ok(())
+}
+
+#[test]
+fn lines_of_no_shape(rt: HostRuntime) -> Result<(), Fail> {
+    let lines = [
+        "TON Ta",
+        "TOF 9a 1",
+        "RTO Ta x",
+        "CTU Ca '1'",
+        "CTD Ca 1 2",
+        "RES",
+        "MOVE 1 a",
+        "MOVE a ''",
+        "SUB a b",
+        "GRT a --1",
+        "SHIFT_REGISTER s n",
+        "SET_PWM a",
+        "UART_SEND 1",
+        "PERSIST a b",
+    ];
+    for line in lines {
+        assert_eq!(rt; of_line(rt.alloc(), line)?, (2, 12), "at {line}");
+    }
+    Ok(())
+}
+
+#[test]
+fn tables_of_no_shape(rt: HostRuntime) -> Result<(), Fail> {
+    let lines = [
+        "LOOK_UP_TABLE d i 2",
+        "LOOK_UP_TABLE d i 2 0",
+        "LOOK_UP_TABLE d i 2 0 1",
+        "LOOK_UP_TABLE d i 2 0 1 2 3",
+        "LOOK_UP_TABLE d i 2 2 1 2",
+        "LOOK_UP_TABLE d i 2 0 1 b",
+        "LOOK_UP_TABLE d i 61 0 '1'",
+    ];
+    for line in lines {
+        assert_eq!(rt; of_line(rt.alloc(), line)?, (2, 12), "at {line}");
+    }
+    Ok(())
+}
+
+#[test]
+fn numbers_out_of_range(rt: HostRuntime) -> Result<(), Fail> {
+    let lines = [
+        "TON Ta 2147483648",
+        "TON Ta -1",
+        "CTU Ca 32768",
+        "CTC Ca -32769",
+        "MOVE a 32768",
+        "ADD a -40000 b",
+        "SHIFT_REGISTER s 0",
+        "SHIFT_REGISTER s 61",
+        "LOOK_UP_TABLE d i 1 0 40000",
+        "LOOK_UP_TABLE d i 2 0 40000",
+        "LOOK_UP_TABLE d i 61 0 1",
+        "SET_PWM a 1000000000",
+    ];
+    for line in lines {
+        assert_eq!(rt; of_line(rt.alloc(), line)?, (8, 12), "at {line}");
     }
     Ok(())
 }
@@ -203,16 +364,30 @@ fn pieces_do_not_matter(rt: HostRuntime) -> Result<(), Fail> {
     Ok(())
 }
 
-/// A traffic light: its timer, on line 18, is the first word that is not built.
+/// A traffic light, cut behind its second rung.
 const TRAFFIC_LIGHT: &str =
     "LDmicro0.1\r\nMICRO=Interpretable Byte Code\r\nCYCLE=10000\r\nCRYSTAL=4000000\r\nBAUD=2400\r\nCOMPILED=light.int\r\n\r\nIO LIST\r\n    Xrun at 2\r\n    Yred at 6\r\n    Ygreen at 7\r\nEND\r\n\r\nPROGRAM\r\nRUNG\r\n    CONTACTS Xrun 0\r\n    CONTACTS Rtick 1\r\n    TON Ttick 20000\r\n    COIL Rtick 0 0 0\r\nEND\r\nRUNG\r\n    CONTACTS Rtick 0\r\n    CTC Cstep 2\r\nEND\r\n";
 
 #[test]
 fn the_traffic_light_in_bytes(rt: HostRuntime) -> Result<(), Fail> {
-    assert_eq!(rt; fault_of(rt.alloc(), TRAFFIC_LIGHT)?, (27, 18));
     match read_by_bytes(rt.alloc(), TRAFFIC_LIGHT.as_bytes()) {
+        Ok(light) => {
+            assert_eq!(rt;
+                (light.cycle, light.pins.len(), light.rungs.len()),
+                (10_000, 3, 2)
+            );
+        }
+        _ => return Err(Fail::new("refused")),
+    }
+    Ok(())
+}
+
+#[test]
+fn a_text_that_is_sent_in_bytes(rt: HostRuntime) -> Result<(), Fail> {
+    let text = joined(rt.alloc(), &[TOP, "PROGRAM\nRUNG\nFORMATTED_STRING n 1 65"])?;
+    match read_by_bytes(rt.alloc(), text.as_bytes()) {
         Err(TextError::Refused(fault)) => {
-            assert_eq!(rt; fault, ProjectFault::NotBuilt { line: 18 });
+            assert_eq!(rt; fault, ProjectFault::NotBuilt { line: 9 });
         }
         _ => return Err(Fail::new("not refused")),
     }

@@ -1,41 +1,62 @@
 -- From each step's promise to the whole one: the text of a lowered project carries it.
-use Rattle.std.proofs.Common.{ℕ, ◌≤◌, List, [], ◌∷◌, length, refl}
+use Rattle.std.proofs.Common.{◌≡◌, ℕ, zero, suc, ◌<◌, ◌≤◌, ℤ, pos, List, [], ◌∷◌, length, map, refl, ap, ◌∙◌, arith}
+use Rattle.std.specs.Prelude.{slice_index_or}
 use Rattle.ld_base.specs.Lines.{lines}
+use Rattle.ladder_tree.specs.Leaves.{all_leaves}
 use Rattle.ladder_tree.specs.declared.names.Names.{Names}
 use Rattle.ladder_tree.specs.declared.project.Project.{Project}
 use Rattle.ladder_tree.specs.Names.{names_of}
 use Rattle.ladder_meaning.specs.declared.reading.Reading.{Reading}
-use Rattle.ladder_meaning.specs.Cycle.{Ended, start}
+use Rattle.ladder_meaning.specs.Cycle.{Ended, start, start_number}
 use Rattle.int_code.specs.declared.op.IntOp.{IntOp}
 use Rattle.int_code.specs.declared.op.IntProgram.{IntProgram}
-use Rattle.int_code.specs.Meaning.{Bits}
 use Rattle.int_code.specs.Meaning as int
+use Rattle.int_code.specs.Store as store
+use Rattle.int_code.specs.Store.{Store}
 use Rattle.int_code.proofs.CountLemmas.{cycle_count}
 use Rattle.ladder_lower.specs.Correct.{Shows, ShowsAll, KeepsHistory}
+use Rattle.ladder_lower.specs.Outcome.{HasSizes}
 use Rattle.interp_code.specs.Program.{IsProgram, read_as}
 use Rattle.interp_code.specs.Refused.{most_bytes}
-use Rattle.ldmicro_top.specs.Carries.{EachShows, Carries}
+use Rattle.ldmicro_top.specs.Carries.{EachEnds, Carries}
 
 -- a cycle executes at most as many operations as there are
-each_shows : (n : Names) (ops : List IntOp) (es : List Ended) (t : Bits) (rs : List Reading) → ShowsAll n es (int.history ops t rs) → EachShows n (length ops) es (int.history ops t rs)
-each_shows n ops [] t [] h = tt
-each_shows n ops (e ∷ es) t (r ∷ rs) h = (record { shows = h.0; few = cycle_count r ops t }, each_shows n ops es (int.cycle r ops t).bits rs h.1)
-each_shows n ops [] t (r ∷ rs) h = absurd h
-each_shows n ops (e ∷ es) t [] h = absurd h
+each_ends : (n : Names) (ops : List IntOp) (es : List Ended) (t : Store) (rs : List Reading) → ShowsAll n es (int.history ops t rs) → EachEnds n (length ops) es (int.history ops t rs)
+each_ends n ops [] t [] h = tt
+each_ends n ops (e ∷ es) t (r ∷ rs) h = (record { ends = h.0; few = cycle_count r ops t }, each_ends n ops es (int.cycle r ops t).store rs h.1)
+each_ends n ops [] t (r ∷ rs) h = absurd h
+each_ends n ops (e ∷ es) t [] h = absurd h
 
--- all is off at the start
-start_shown : (n : Names) (p : Project) (eeprom : ℕ → ℕ) → Shows n (start p eeprom) int.start
-start_shown n p eeprom = record { outputs = λ k lt. refl; relays = λ k lt. refl; memories = λ k lt. refl }
+mapped_at : (f : List ℕ → ℤ) (xs : List (List ℕ)) (k : ℕ) → k < length xs → slice_index_or (map f xs) k (pos 0) ≡ f (slice_index_or xs k [])
+mapped_at f [] k lt = absurd (omega arith)
+mapped_at f (x ∷ xs) zero lt = refl
+mapped_at f (x ∷ xs) (suc k) lt = mapped_at f xs k (omega arith)
 
-pub carried : (p : Project) (program : IntProgram) (code : List ℕ) → IsProgram (lines code) (read_as p.cycle (names_of p.rungs) program) → length code ≤ most_bytes → KeepsHistory (names_of p.rungs) p program.ops → Carries p code (length program.ops)
-carried p program code read within keeps = record {
+-- variables start as the ladder's do, and all else is off
+start_shown : (n : Names) (p : Project) (program : IntProgram) (eeprom : ℕ → ℕ) → HasSizes n p program → Shows n (start p eeprom) (store.start program.starts eeprom)
+start_shown n p program eeprom sizes = record {
+  outputs = λ k lt. refl;
+  relays = λ k lt. refl;
+  variables = λ k lt. ap (λ (ns : List ℤ). slice_index_or ns k (pos 0)) sizes.starts ∙ mapped_at (start_number p.cycle (all_leaves p.rungs)) n.variables k lt;
+  memories = λ k lt. refl;
+  loaded = λ k lt. refl;
+  eeprom = refl;
+  pending = refl;
+  duty = refl;
+}
+
+pub carried : (p : Project) (program : IntProgram) (code : List ℕ) → IsProgram (lines code) (read_as p.cycle (names_of p.rungs) program) → length code ≤ most_bytes → HasSizes (names_of p.rungs) p program → KeepsHistory (names_of p.rungs) p program.ops → Carries p code (length program.ops)
+carried p program code read within sizes keeps = record {
   program = read_as p.cycle (names_of p.rungs) program;
   read = read;
   within = within;
   cycle = refl;
   inputs = refl;
   outputs = refl;
+  analogs = refl;
+  variables = refl;
   relays = refl;
+  persistent = refl;
   operations = refl;
-  each = λ eeprom rs. each_shows (names_of p.rungs) program.ops _ int.start rs (keeps.each (start p eeprom) int.start rs (start_shown (names_of p.rungs) p eeprom));
+  each = λ eeprom rs. each_ends (names_of p.rungs) program.ops _ (store.start program.starts eeprom) rs (keeps.each (start p eeprom) (store.start program.starts eeprom) rs (start_shown (names_of p.rungs) p program eeprom sizes));
 }

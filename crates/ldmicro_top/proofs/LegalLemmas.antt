@@ -88,7 +88,7 @@ rungs_sized (g ∷ gs) =
     let rest = rungs_sized gs in
     omega (arith, one, rest, length-append (leaves_in g.nodes) (all_leaves gs))
 
-pub is_sized : (p : Project) → IsWithin p → size_of_all p.rungs ≤ 65536
+pub is_sized : (p : Project) → IsWithin p → size_of_all p.rungs ≤ 13000
 is_sized p w = omega (arith, rungs_sized p.rungs, w.elements, w.forms, w.rungs)
 
 -- the limits that the rules ask for

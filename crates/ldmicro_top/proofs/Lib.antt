@@ -1,3 +1,7 @@
+pub mod MemberLemmas
+pub mod VariableLemmas
+pub mod FitLemmas
+pub mod RoomLemmas
 pub mod RanLemmas
 pub mod CarryLemmas
 pub mod NamedLemmas

@@ -4,14 +4,18 @@ use Rattle.std.proofs.lemmas.Bool.Decides.{nat_tests}
 use Rattle.std.specs.List.{list_any, list_all}
 use Rattle.std.specs.Str.{bytes_eq}
 use Rattle.ladder_tree.specs.declared.element.Leaf as leaf
-use Rattle.ladder_tree.specs.Names.{firsts, firsts_from, all_bits, bit_names, is_name, is_name_within, is_name_byte, is_digit, is_well_named, has_kind, all_well_named, appearances, is_input, is_output, is_relay, names_of}
+use Rattle.ladder_tree.specs.Names.{firsts, firsts_from, all_bits, bit_names, is_name, is_name_within, is_name_byte, is_digit, is_well_named, has_kind, all_well_named, appearances, is_input, is_output, is_relay, all_named, analog_names, persistent_names, variable_names, names_of}
 use Rattle.ladder_tree.specs.declared.names.Names.{Names}
+use Rattle.ladder_tree.specs.declared.project.Project.{Project}
 use Rattle.ladder_tree.specs.declared.project.Rung.{Rung}
 use Rattle.ladder_tree.specs.Leaves.{all_leaves}
 use Rattle.int_code.specs.declared.op.IntProgram.{IntProgram}
 use Rattle.int_code.specs.WellFormed.{IsWellFormed}
 use Rattle.ladder_lower.specs.Outcome.{HasSizes, HasRoom}
 use Rattle.interp_code.specs.Program.{differ_from, all_differ, IsWritable}
+use Rattle.ld_line.specs.Range.{is_read_kind}
+use Rattle.ldmicro_top.proofs.MemberLemmas.{analog_variables, persistent_variables}
+use Rattle.ldmicro_top.proofs.VariableLemmas.{variables_within, analogs_within, persistents_within}
 
 -- one more name that is none of those before
 differ_by : (seen xs : List (List ℕ)) (x n : List ℕ) (b : Bool) → (differ_from (seen ++ x ∷ []) xs ≡ true → differ_from (seen ++ x ∷ []) (xs ++ n ∷ []) ≡ true) → list_any (bytes_eq x) seen ≡ b → not b && differ_from (seen ++ x ∷ []) xs ≡ true → not (list_any (bytes_eq x) seen) && differ_from (seen ++ x ∷ []) (xs ++ n ∷ []) ≡ true
@@ -89,29 +93,48 @@ all_within : (names : List (List ℕ)) → list_all is_name names ≡ true → l
 all_within [] h = refl
 all_within (n ∷ ns) h = both_true (is_name_within 66 n) _ (within_66 n (first_true (is_name n) _ h)) (all_within ns (second_true (is_name n) _ h))
 
+firsts_within : (names : List (List ℕ)) → list_all (is_name_within 66) names ≡ true → list_all (is_name_within 66) (firsts names) ≡ true
+firsts_within names h = all_firsts_from (is_name_within 66) [] names refl h
+
 pub listed_within : (is_kind : List ℕ → Bool) (ls : List leaf.Leaf) → all_well_named ls ≡ true → list_all (is_name_within 66) (firsts (appearances is_kind ls)) ≡ true
 listed_within is_kind ls h = all_within (firsts (appearances is_kind ls)) (listed_named is_kind ls h)
 
 -- a project's names and its program have a text
-pub writable : (gs : List Rung) (cycle : ℕ) (program : IntProgram) → all_well_named (all_leaves gs) ≡ true → cycle ≤ 999999999 → IsWellFormed program → HasSizes (names_of gs) program → HasRoom program → IsWritable cycle (names_of gs) program
-writable gs cycle program named timed formed sizes room = record {
-  sound = record {
-    inputs = firsts_differ (appearances is_input (all_leaves gs));
-    outputs = firsts_differ (appearances is_output (all_leaves gs));
-    relays = firsts_differ (appearances is_relay (all_leaves gs));
-    input_count = sizes.inputs;
-    output_count = sizes.outputs;
-    bit_count = let kept = sizes.kept in let within = formed.kept in omega arith;
-    few_bits = room.bits;
-    well_formed = formed;
-  };
-  inputs = listed_within is_input (all_leaves gs) named;
-  outputs = listed_within is_output (all_leaves gs) named;
-  relays = listed_within is_relay (all_leaves gs) named;
-  timed = timed;
-  few = room.ops;
-}
+pub writable : (gs : List Rung) (q : Project) (program : IntProgram) → all_well_named (all_leaves gs) ≡ true → list_all (λ l. is_read_kind l.kind) (all_leaves gs) ≡ true → q.cycle ≤ 999999999 → length (names_of gs).persistent ≤ 256 → IsWellFormed program → HasSizes (names_of gs) q program → HasRoom program → IsWritable q.cycle (names_of gs) program
+writable gs q program named read timed few formed sizes room =
+    let ls = all_leaves gs in
+    record {
+      sound = record {
+        inputs = firsts_differ (appearances is_input ls);
+        outputs = firsts_differ (appearances is_output ls);
+        analogs = firsts_differ (all_named analog_names ls);
+        variables = firsts_differ (all_named variable_names ls);
+        relays = firsts_differ (appearances is_relay ls);
+        persistent = firsts_differ (all_named persistent_names ls);
+        analog_variables = analog_variables ls;
+        persistent_variables = persistent_variables ls;
+        input_count = sizes.inputs;
+        output_count = sizes.outputs;
+        analog_count = sizes.analogs;
+        variable_count = sizes.variables;
+        persistent_count = sizes.persistent;
+        few_persistent = let p = sizes.persistent in omega (arith, p, few);
+        bit_count = let kept = sizes.kept in let within = formed.kept in omega arith;
+        few_bits = room.bits;
+        well_formed = formed;
+      };
+      inputs = listed_within is_input ls named;
+      outputs = listed_within is_output ls named;
+      analogs = firsts_within (all_named analog_names ls) (analogs_within ls read);
+      variables = firsts_within (all_named variable_names ls) (variables_within ls read);
+      relays = listed_within is_relay ls named;
+      persistent = firsts_within (all_named persistent_names ls) (persistents_within ls read);
+      timed = timed;
+      few = room.ops;
+    }
 
 -- the same of the names that were listed
-pub writable_names : (gs : List Rung) (n : Names) (cycle : ℕ) (program : IntProgram) → n ≡ names_of gs → all_well_named (all_leaves gs) ≡ true → cycle ≤ 999999999 → IsWellFormed program → HasSizes n program → HasRoom program → IsWritable cycle n program
-writable_names gs n cycle program e named timed formed sizes room = subst (λ (m : Names). IsWritable cycle m program) (sym e) (writable gs cycle program named timed formed (subst (λ (m : Names). HasSizes m program) e sizes) room)
+pub writable_names : (q : Project) (n : Names) (program : IntProgram) → n ≡ names_of q.rungs → all_well_named (all_leaves q.rungs) ≡ true → list_all (λ l. is_read_kind l.kind) (all_leaves q.rungs) ≡ true → q.cycle ≤ 999999999 → length n.persistent ≤ 256 → IsWellFormed program → HasSizes n q program → HasRoom program → IsWritable q.cycle n program
+writable_names q n program e named read timed few formed sizes room =
+    subst (λ (m : Names). IsWritable q.cycle m program) (sym e)
+    (writable q.rungs q program named read timed (subst (λ (m : Names). length m.persistent ≤ 256) e few) formed (subst (λ (m : Names). HasSizes m q program) e sizes) room)

@@ -3,7 +3,7 @@ use Rattle.std.specs.Prelude.{◌≡◌, ◌⊎◌, ⊤, ℕ, Bool, true, false,
 use Rattle.ld_base.specs.Bytes.{Held}
 use Rattle.ladder_tree.specs.declared.project.Project.{Project}
 use Rattle.ladder_tree.specs.declared.fault.ProjectFault.{ProjectFault}
-use Rattle.ladder_rules.specs.Verdict.{rule}
+use Rattle.ldmicro_top.specs.Verdict.{verdict}
 use Rattle.ld_text.specs.Text.{IsReadAs, text_fault, judged}
 use Rattle.ld_text.specs.declared.fault.TextError.{TextError}
 use Rattle.ld_text.specs.declared.fault.TextError.TheVariants as error
@@ -11,13 +11,13 @@ use Rattle.ldmicro_top.specs.declared.status.Status.{Status}
 use Rattle.ldmicro_top.specs.declared.status.Status.TheVariants as status
 use Rattle.ldmicro_top.specs.Command.{Command, Compile, Other}
 
--- the text has the fault, or its project breaks a rule with it
+-- the text has the fault, or the verdict on its project is it
 abbrev pub IsRefusedFor : List ℕ → ProjectFault → Type 0
-IsRefusedFor text fault = (text_fault (judged text) ≡ Some fault) ⊎ ((p : Project) × IsReadAs (judged text) p × (rule p ≡ Some fault))
+IsRefusedFor text fault = (text_fault (judged text) ≡ Some fault) ⊎ ((p : Project) × IsReadAs (judged text) p × (verdict p ≡ Some fault))
 
--- a project stands for the text and keeps the rules, or the text is refused
+-- a project stands for the text, keeps the rules and fits, or the text is refused
 abbrev pub Answers : List ℕ → Status → Type 0
-Answers text status.Ok = (p : Project) × IsReadAs (judged text) p × (rule p ≡ None)
+Answers text status.Ok = (p : Project) × IsReadAs (judged text) p × (verdict p ≡ None)
 Answers text (status.Refused fault) = IsRefusedFor text fault
 Answers text _ = ⊥
 

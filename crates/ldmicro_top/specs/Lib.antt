@@ -1,7 +1,9 @@
 pub mod StatusLine
+pub mod Verdict
 pub mod Report
 pub mod Carries
 pub mod Command
 pub mod Expected
 pub mod Ran
 pub mod Steps
+pub mod Placed

@@ -5,7 +5,7 @@ use Rattle.ld_base.specs.Bytes.{Held, SameHeld, HoldsThen}
 use Rattle.ladder_tree.specs.declared.project.Project.{Project}
 use Rattle.ladder_tree.specs.Names.{names_of}
 use Rattle.int_code.specs.Caps.{ops_cap}
-use Rattle.ladder_rules.specs.Verdict.{rule}
+use Rattle.ldmicro_top.specs.Verdict.{verdict}
 use Rattle.ld_text.specs.Text.{IsReadAs, judged}
 use Rattle.ldmicro_top.specs.declared.status.Status.{Status}
 use Rattle.ldmicro_top.specs.declared.status.Status.TheVariants.{Ok, ReadFault, WriteFault, NoMemory}
@@ -33,11 +33,11 @@ pub record IsEmitted (project : Project) (code printed : List ℕ) : Type 0 wher
   pub cap : most ≤ ops_cap project.rungs
   pub report : printed ≡ report (names_of project.rungs) most
 
--- the text is read as a project that keeps the rules, and these bytes are what it is compiled to
+-- the text is read as a project that keeps the rules and fits, and these bytes are what it is compiled to
 pub record IsCompiledText (text code printed : List ℕ) : Type 0 where
   pub project : Project
   pub stands : IsReadAs (judged text) project
-  pub legal : rule project ≡ None
+  pub legal : verdict project ≡ None
   pub emitted : IsEmitted project code printed
 
 -- the same of the text that a source holds

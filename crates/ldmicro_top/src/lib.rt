@@ -9,3 +9,5 @@ pub mod status;
 #[cfg(test)]
 mod tests;
 pub mod words;
+#[cfg(test)]
+mod worked;

@@ -2,7 +2,8 @@
 
 ghost use Rattle.std.specs.Prelude.{◌≡◌, ◌+◌, ◌*◌, ◌/◌, ◌^◌, ◌<◌, length, IfOk};
 ghost use Rattle.std.specs.String.{string_bytes};
-ghost use Rattle.ldmicro_top.specs.Report.{report, ram_need};
+ghost use Rattle.ldmicro_top.specs.Report.{report};
+ghost use Rattle.ldmicro_top.specs.Verdict.{ram_need};
 
 use ladder_tree::names::Names;
 use std::alloc::{AllocError, Global};

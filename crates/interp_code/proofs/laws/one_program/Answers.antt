@@ -8,11 +8,11 @@ use Rattle.interp_code.proofs.laws.one_program.Goals as goal
 
 -- what was read at the end of the program's text
 last_of : InterpProgram → Draft
-last_of p = ended p.cycle p.names.inputs p.names.outputs p.names.relays p.program.bits p.program.ops
+last_of p = ended p.cycle (record p.names { memories = 0 }) p.program.starts p.program.bits p.program.ops
 
 said_again : (p : InterpProgram) → IsSound p.names p.program → read_as p.cycle p.names p.program ≡ program_of (last_of p)
 unfolding last_of
-said_again p sound = rw (sound.input_count, sound.output_count) refl
+said_again p sound = rw (sound.input_count, sound.output_count, sound.analog_count, sound.variable_count, sound.persistent_count) refl
 
 one : (ls : List (List ℕ)) (p q : InterpProgram) → IsProgram ls p → IsProgram ls q → p ≡ q
 unfolding last_of

@@ -4,6 +4,7 @@ use Rattle.interp_code.specs.Refused.{judged}
 use Rattle.interp_code.specs.Held.{draft}
 use Rattle.ld_base.proofs.LineLemmas.{length-lines}
 use Rattle.interp_code.proofs.RunnableLemmas.{runnable}
+use Rattle.interp_code.proofs.WritableLemmas.{writable}
 use Rattle.interp_code.proofs.Outcomes.{stopped_refused, long_text, short_text, whole_text, whole_length}
 use Rattle.interp_code.proofs.read.read_interp.Goals as goal
 
@@ -43,3 +44,8 @@ pub returns-in-Ok-program-clause-runnable : goal.returns-in-Ok-program-clause-ru
 returns-in-Ok-program-clause-runnable c =
     let o = rw (c.in-All.is, c.judged.ensures.front) at c.in-Ok.ensures in
     rw c.in-Ok-program.ensures (runnable (lines c.args.text.now) _ (whole_text c.args.text.now (draft c.in-All.reader) c.if-text-gt-MOST_BYTES.false o.0 o.1 (sym c.has_ended.ensures ∙ c.if-not-has_ended.false)))
+
+pub returns-in-Ok-program-clause-writable : goal.returns-in-Ok-program-clause-writable
+returns-in-Ok-program-clause-writable c =
+    let o = rw (c.in-All.is, c.judged.ensures.front) at c.in-Ok.ensures in
+    rw c.in-Ok-program.ensures (writable (lines c.args.text.now) _ (whole_text c.args.text.now (draft c.in-All.reader) c.if-text-gt-MOST_BYTES.false o.0 o.1 (sym c.has_ended.ensures ∙ c.if-not-has_ended.false)))

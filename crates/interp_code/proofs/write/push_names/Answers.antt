@@ -1,7 +1,8 @@
 use Rattle.std.proofs.Common.{◌++◌, arith, append_assoc}
 use Rattle.std.proofs.lemmas.Grind.{common_steps}
 use Rattle.interp_code.proofs.TextLemmas.{joined_more}
-use Rattle.interp_code.proofs.ReadsBack.{name_is_ascii, names_at}
+use Rattle.interp_code.proofs.SpelledWords.{name_is_ascii}
+use Rattle.interp_code.proofs.ReadsBack.{names_at}
 use Rattle.interp_code.proofs.write.push_names.Goals as goal
 
 pub push_ascii-requires : goal.push_ascii-requires

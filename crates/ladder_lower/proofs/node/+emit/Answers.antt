@@ -4,7 +4,7 @@ use Rattle.ladder_lower.specs.NodeCode.{Piece, piece, others_of}
 use Rattle.ladder_lower.proofs.NodeLemmas.{fork, keep}
 use Rattle.std.proofs.lemmas.Grind.{common_steps}
 use Rattle.ladder_tree.specs.declared.project.Node.TheViews.{the_lemmas}
-use Rattle.ladder_lower.proofs.LoopLemmas.{nesting_at, fits_less, series_step, series_count, others_step, others_count, last_at, behind, not_empty, forks, fork_step}
+use Rattle.ladder_lower.proofs.LoopLemmas.{nesting_at, fit_at, fits_less, series_step, series_count, others_step, others_count, last_at, behind, not_empty, forks, fork_step}
 use Rattle.ladder_lower.proofs.node.+emit.Goals as goal
 
 pub emit_series-loop-node-preserved : goal.emit_series-loop-node-preserved
@@ -19,7 +19,7 @@ pub emit_series-emit_node-requires : goal.emit_series-emit_node-requires
 emit_series-emit_node-requires t c =
     let below = nesting_at c.args.nodes.now c.loop-node.node-index c.node-item.result c.loop-node-test.true c.node-item.is in
     let count = series_count c.args.layout.now c.args.nodes.now c.loop-node.node-index c.node-item.result c.loop-node.k _ c.loop-node-test.true c.node-item.is c.loop-node.invariant.count in
-    (search (rules, the_lemmas, common_steps), (fits_less c.args.layout.now _ _ (omega (arith, below)) c.requires.fits, omega (arith, count, c.requires.room)))
+    (search (rules, the_lemmas, common_steps), (fits_less c.args.layout.now _ _ (omega (arith, below)) c.requires.fits, (omega (arith, count, c.requires.room), (c.requires.cycle, fit_at c.args.layout.now.cycle c.args.nodes.now c.loop-node.node-index c.node-item.result c.loop-node-test.true c.node-item.is c.requires.fit))))
 
 pub emit_parallel-returns-in_ok-push-in-len1-up-2-clause-code :
     goal.emit_parallel-returns-in_ok-push-in-len1-up-2-clause-code
@@ -57,4 +57,4 @@ pub emit_others-emit_node-requires : goal.emit_others-emit_node-requires
 emit_others-emit_node-requires t c =
     let below = nesting_at c.args.branches.now c.loop-i.i c.index-branches-i.result c.loop-i-test.true c.index-branches-i.is in
     let count = others_count c.args.layout.now c.args.branches.now c.loop-i.i c.index-branches-i.result c.loop-i.k _ c.loop-i-test.true c.index-branches-i.is c.loop-i.invariant.count in
-    (search (rules, the_lemmas, common_steps), (fits_less c.args.layout.now _ _ (omega (arith, below)) c.requires.fits, omega (arith, count, c.requires.room)))
+    (search (rules, the_lemmas, common_steps), (fits_less c.args.layout.now _ _ (omega (arith, below)) c.requires.fits, (omega (arith, count, c.requires.room), (c.requires.cycle, fit_at c.args.layout.now.cycle c.args.branches.now c.loop-i.i c.index-branches-i.result c.loop-i-test.true c.index-branches-i.is c.requires.fit))))

@@ -1,7 +1,7 @@
 use Rattle.std.proofs.Common.{◌≡◌, inl, inr, ℕ, List, Option, Some, None, refl, sym, ap, ◌∙◌}
 use Rattle.ld_base.specs.Bytes.{Held}
 use Rattle.ladder_tree.specs.declared.fault.ProjectFault.{ProjectFault}
-use Rattle.ladder_rules.specs.Verdict.{rule}
+use Rattle.ldmicro_top.specs.Verdict.{verdict}
 use Rattle.ld_text.specs.Lines.{lines_of}
 use Rattle.ld_text.specs.Text.{judged}
 use Rattle.ld_text.proofs.ProjectLemmas.{one_project}
@@ -16,7 +16,7 @@ not_both : (text : List ℕ) (f : ProjectFault) → Answers text Ok → IsRefuse
 not_both text f h (inl k) = let no = sym h.1.faultless ∙ k in absurd cc
 not_both text f h (inr k) =
     let same = one_project (lines_of (judged text)) h.0 k.0 h.1.project k.1.project in
-    let no = sym h.2 ∙ ap rule same ∙ k.2 in
+    let no = sym h.2 ∙ ap verdict same ∙ k.2 in
     absurd cc
 
 one_fault : (text : List ℕ) (f g : ProjectFault) → IsRefusedFor text f → IsRefusedFor text g → f ≡ g
@@ -25,7 +25,7 @@ one_fault text f g (inl h) (inr k) = let no = sym h ∙ k.1.faultless in absurd 
 one_fault text f g (inr h) (inl k) = let no = sym k ∙ h.1.faultless in absurd cc
 one_fault text f g (inr h) (inr k) =
     let same = one_project (lines_of (judged text)) h.0 k.0 h.1.project k.1.project in
-    let both = sym h.2 ∙ ap rule same ∙ k.2 in
+    let both = sym h.2 ∙ ap verdict same ∙ k.2 in
     cc
 
 one_answer : (text : List ℕ) (a b : Status) → Answers text a → Answers text b → a ≡ b

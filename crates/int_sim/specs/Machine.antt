@@ -1,0 +1,67 @@
+-- A program that runs, and what it shows of a project's names.
+use Rattle.std.specs.Prelude.{◌≡◌, ℕ, ◌*◌, ◌<◌, ◌≤◌, ◌^◌, List, [], ◌∷◌, ℤ, length, map, unsigned_abs, nat_eq, Bool, Option, None, Some, if◌then◌else◌}
+use Rattle.std.specs.List.{range_with_len}
+use Rattle.ladder_tree.specs.declared.names.Names.{Names}
+use Rattle.ladder_meaning.specs.declared.reading.View.{View}
+use Rattle.int_code.specs.Held.{store_of}
+use Rattle.int_code.specs.Store.{Store}
+use Rattle.int_code.specs.Uses.{has_pwm}
+use Rattle.int_code.specs.WellFormed.{IsWellFormed}
+use Rattle.int_code.specs.declared.op.IntProgram.{IntProgram}
+use Rattle.int_code.specs.declared.state.State.{State}
+
+-- a program, and what its operations wrote
+pub record Running : Type 0 where
+  pub program : IntProgram
+  pub state : State
+
+-- the state as the meaning of operations has it
+abbrev pub state_of : Running → Store
+state_of m = store_of m.state
+
+-- an EEPROM has room for 256 variables
+pub record IsRunnable (p : IntProgram) : Type 0 where
+  pub well_formed : IsWellFormed p
+  pub persistent : p.persistent ≤ 256
+  pub length : length p.ops < 2 ^ 31
+
+-- the state has the sizes of the program
+pub record IsWhole (m : Running) : Type 0 where
+  pub runnable : IsRunnable m.program
+  pub bits : length m.state.bits.items ≡ m.program.bits
+  pub outputs : length m.state.outputs.items ≡ m.program.outputs
+  pub numbers : length m.state.numbers.items ≡ m.program.variables
+
+-- names that have places in the program: the first bits are the relays
+pub record HasPlaces (n : Names) (p : IntProgram) : Type 0 where
+  pub outputs : length n.outputs ≡ p.outputs
+  pub variables : length n.variables ≡ p.variables
+  pub relays : length n.relays ≤ p.bits
+
+-- the first so many
+abbrev pub firsts : {A : Type 0} → ℕ → (ℕ → A) → List A
+firsts n f = map f (range_with_len 0 n)
+
+-- the duty, where an operation sets it
+abbrev pub duty_of : Bool → ℤ → Option ℕ
+duty_of sets duty = if sets then Some (unsigned_abs duty) else None
+
+-- the byte that was sent, if one was
+abbrev pub sent_of : List ℕ → Option ℕ
+sent_of [] = None
+sent_of (byte ∷ bytes) = Some byte
+
+-- two bytes for each persistent variable, where there are any
+abbrev pub bytes_of : ℕ → (ℕ → ℕ) → Option (List ℕ)
+bytes_of persistent eeprom = if nat_eq persistent 0 then None else Some (firsts (2 * persistent) eeprom)
+
+-- what a program shows of the names
+abbrev pub view_of : Names → IntProgram → Store → View
+view_of n p t = record {
+  outputs = firsts p.outputs t.output;
+  relays = firsts (length n.relays) t.bit;
+  variables = firsts p.variables t.number;
+  pwm = duty_of (has_pwm p.ops) t.devices.duty;
+  sent = sent_of t.devices.sent;
+  eeprom = bytes_of p.persistent t.devices.eeprom;
+}

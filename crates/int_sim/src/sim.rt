@@ -1,0 +1,273 @@
+//! A program that runs.
+
+ghost use Rattle.std.specs.Prelude.{◌≡◌, ◌<◌, ◌≤◌, length, slice_index_or, IfOk};
+ghost use Rattle.int_code.specs.Meaning as meaning;
+ghost use Rattle.int_code.specs.Store.{start};
+ghost use Rattle.int_code.specs.Uses.{is_pwm, has_pwm};
+ghost use Rattle.int_sim.specs.Machine.{state_of, bytes_of, duty_of, sent_of, IsRunnable, HasPlaces, view_of};
+
+use int_code::cycle::cycle;
+use int_code::op::{IntOp, IntProgram};
+use int_code::state::State;
+use ladder_meaning::reading::{Reading, View};
+use ladder_tree::element::Bytes;
+use ladder_tree::names::Names;
+use ld_base::list::List;
+use std::alloc::{AllocError, Global};
+use std::marker::Model;
+
+/// A program and its state between cycles.
+#[derive(Debug, Drop)]
+pub struct Sim {
+    program: IntProgram,
+    /// A level for each bit and each output, a number for each variable, and the devices.
+    state: State,
+    /// Whether an operation sets the duty of the PWM.
+    sets_duty: bool,
+}
+
+impl Model for Sim {
+    ghost use Rattle.std.specs.Prelude.{◌≡◌};
+    ghost use Rattle.int_code.specs.Uses.{has_pwm};
+    ghost use Rattle.int_sim.specs.Machine.{Running, IsWhole};
+
+    ghost Value = { Running };
+
+    ghost view = { λ m. record { program = m.program; state = m.state } };
+
+    ghost invariant = { λ m. IsWhole (record { program = m.program; state = m.state }) × (m.sets_duty ≡ has_pwm m.program.ops) };
+}
+
+impl Sim {
+    /// A program of at most 256 persistent variables before its first cycle, with the bytes of an EEPROM. It makes the
+    /// room for all that cycles write.
+    pub fn new(alloc: Global, p: IntProgram, ee: &[u8; 512]) -> Result<Sim, AllocError>
+        requires { IsRunnable p }
+        ensures program { IfOk result (λ m. m.program ≡ p) }
+        ensures start { IfOk result (λ m. state_of m ≡ start p.starts (λ k. slice_index_or ee.now k 0)) }
+    {
+        let state = State::new(alloc, &p, ee)?;
+        let sets_duty = has_pwm(p.ops.as_slice());
+        Ok(Sim {
+            program: p,
+            state,
+            sets_duty,
+        })
+    }
+
+    /// The program that runs.
+    pub fn program(&self) -> &IntProgram
+        ensures { result.now ≡ self.now.program }
+    {
+        &self.program
+    }
+
+    /// Runs the operations once, on a reading of the program's sizes. It takes no memory. The answer is how many
+    /// operations were executed.
+    pub fn cycle(&mut self, r: &Reading) -> u32
+        requires inputs { length r.now.inputs ≡ self.old.program.inputs }
+        requires analogs { length r.now.analog ≡ self.old.program.analogs }
+        ensures program { self.new.program ≡ self.old.program }
+        ensures state { state_of self.new ≡ (meaning.cycle r.now self.old.program.ops (state_of self.old)).store }
+        ensures count { result ≡ (meaning.cycle r.now self.old.program.ops (state_of self.old)).count }
+    {
+        cycle(self.program.ops.as_slice(), r, &mut self.state)
+    }
+
+    /// The number of a variable.
+    pub fn value(&self, i: u32) -> i16
+        requires { i < self.now.program.variables }
+        ensures { result ≡ (state_of self.now).number i }
+    {
+        self.state.numbers[i as usize]
+    }
+
+    /// The level of a bit.
+    pub fn bit(&self, i: u32) -> bool
+        requires { i < self.now.program.bits }
+        ensures { result ≡ (state_of self.now).bit i }
+    {
+        self.state.bits[i as usize]
+    }
+
+    /// The byte that the last cycle sent, if it sent one.
+    pub fn sent(&self) -> Option<u8>
+        ensures { result ≡ sent_of (state_of self.now).devices.sent }
+    {
+        self.state.devices.sent
+    }
+
+    /// What the program shows of a project whose names have places in it.
+    pub fn view(&self, alloc: Global, n: &Names) -> Result<View, AllocError>
+        requires { HasPlaces n.now self.now.program }
+        ensures { IfOk result (λ v. v ≡ view_of n.now self.now.program (state_of self.now)) }
+    {
+        let outputs = self.state.outputs.to_vec(alloc)?;
+        let relays = self.state.bits[..n.relays.len()].to_vec(alloc)?;
+        let variables = self.state.numbers.to_vec(alloc)?;
+        let eeprom = saved(alloc, self.program.persistent, &self.state.devices.eeprom)?;
+        Ok(View {
+            outputs: List::from_vec(outputs),
+            relays: List::from_vec(relays),
+            variables: List::from_vec(variables),
+            pwm: self.duty(),
+            sent: self.state.devices.sent,
+            eeprom,
+        })
+    }
+
+    /// The duty, where an operation sets it.
+    fn duty(&self) -> Option<u8>
+        ensures { result ≡ duty_of (has_pwm self.now.program.ops) (state_of self.now).devices.duty }
+    {
+        if self.sets_duty {
+            Some(self.state.devices.duty)
+        } else {
+            None
+        }
+    }
+}
+
+/// The bytes of so many persistent variables, two for each; none where there are no such variables.
+fn saved(alloc: Global, persistent: u32, eeprom: &[u8; 512]) -> Result<Option<Bytes>, AllocError>
+    requires { persistent ≤ 256 }
+    ensures { IfOk result (λ bytes. bytes ≡ bytes_of persistent (λ k. slice_index_or eeprom.now k 0)) }
+{
+    if persistent == 0 {
+        return Ok(None);
+    }
+    let bytes = eeprom[..2 * persistent as usize].to_vec(alloc)?;
+    Ok(Some(List::from_vec(bytes)))
+}
+
+/// Whether an operation sets the duty.
+fn has_pwm(ops: &[IntOp]) -> bool
+    ensures { result ≡ has_pwm ops.now }
+{
+    ops.iter().any(is_pwm)
+}
+
+fn is_pwm(op: &IntOp) -> bool
+    ensures { result ≡ is_pwm op.now }
+{
+    matches!(op, IntOp::Pwm { .. })
+}
+
+#[cfg(test)]
+mod tests {
+    use super::*;
+    use int_code::op::{BitDest, BitSource};
+    use int_code::well_formed::well_formed;
+    use ladder_tree::names::NameList;
+    use std::test::Fail;
+
+    fn one_name(alloc: Global, name: &[u8]) -> Result<NameList, AllocError> {
+        let mut names = List::new(alloc);
+        names.push(List::from_vec(name.to_vec(alloc)?))?;
+        Ok(names)
+    }
+
+    /// The input x0 sets the relay b0, or else the output y0 follows it. The variable v0 counts cycles.
+    fn program(alloc: Global) -> Result<IntProgram, AllocError> {
+        let ops = vec![in alloc;
+            IntOp::Ifs { s: BitSource::X(0) },
+            IntOp::Set { b: BitDest::B(0) },
+            IntOp::Els,
+            IntOp::Cpy {
+                b: BitDest::Y(0),
+                s: BitSource::B(0)
+            },
+            IntOp::Fi,
+            IntOp::Inc { v: 0 },
+        ]?;
+        Ok(IntProgram {
+            ops: List::from_vec(ops),
+            inputs: 1,
+            outputs: 1,
+            analogs: 0,
+            variables: 1,
+            kept_bits: 1,
+            bits: 1,
+            persistent: 0,
+            starts: List::from_vec(vec![in alloc; -1]?),
+        })
+    }
+
+    fn names(alloc: Global) -> Result<Names, AllocError> {
+        Ok(Names {
+            inputs: one_name(alloc, b"Xstart")?,
+            outputs: one_name(alloc, b"Ymotor")?,
+            relays: one_name(alloc, b"Rkept")?,
+            variables: one_name(alloc, b"cycles")?,
+            analog: List::new(alloc),
+            persistent: List::new(alloc),
+            memories: 0,
+        })
+    }
+
+    fn sim(alloc: Global) -> Result<Option<Sim>, AllocError> {
+        let p = program(alloc)?;
+        if !well_formed(&p) || p.persistent > 256 || p.ops.len() >= 1_000_000 {
+            return Ok(None);
+        }
+        Ok(Some(Sim::new(alloc, p, &[0xff; 512])?))
+    }
+
+    /// A cycle on the level of x0: how many operations were executed.
+    fn step(alloc: Global, sim: &mut Sim, level: bool) -> Result<Option<u32>, AllocError> {
+        let mut inputs = List::new(alloc);
+        inputs.push(level)?;
+        let r = Reading {
+            inputs,
+            analog: List::new(alloc),
+            rx: None,
+            tx_busy: false,
+            ee_busy: false,
+        };
+        let program = sim.program();
+        if r.inputs.len() != program.inputs as usize || r.analog.len() != program.analogs as usize {
+            return Ok(None);
+        }
+        Ok(Some(sim.cycle(&r)))
+    }
+
+    /// The level of the relay and of the output, and the number of the variable, where there is one of each.
+    fn shown(alloc: Global, sim: &Sim) -> Result<Option<(bool, bool, i16)>, AllocError> {
+        let names = names(alloc)?;
+        let program = sim.program();
+        if names.outputs.len() != program.outputs as usize
+            || names.variables.len() != program.variables as usize
+            || names.relays.len() > program.bits as usize
+        {
+            return Ok(None);
+        }
+        let view = sim.view(alloc, &names)?;
+        let levels = (view.relays.as_slice(), view.outputs.as_slice());
+        match (levels, view.variables.as_slice()) {
+            (([relay], [output]), [number]) => Ok(Some((*relay, *output, *number))),
+            _ => Ok(None),
+        }
+    }
+
+    #[test]
+    fn runs_a_program(rt: HostRuntime) -> Result<(), Fail> {
+        let Some(mut s) = sim(rt.alloc())? else {
+            return Ok(assert!(rt; false));
+        };
+        // the input; how many operations are executed, the relay, the output, the variable
+        let rows = [
+            (false, 4, false, false, 0),
+            (true, 5, true, false, 1),
+            (false, 4, true, true, 2),
+        ];
+        for (level, count, relay, output, number) in rows {
+            assert_eq!(rt; step(rt.alloc(), &mut s, level)?, Some(count), "at {level}");
+            assert_eq!(rt;
+                shown(rt.alloc(), &s)?,
+                Some((relay, output, number)),
+                "at {level}"
+            );
+        }
+        Ok(())
+    }
+}

@@ -1,0 +1,96 @@
+-- The elements whose operations set no duty, look nothing up and write nothing to the EEPROM.
+use Rattle.std.proofs.Common.{◌≡◌, ℕ, zero, suc, Bool, true, false, List, ℤ, refl}
+use Rattle.std.proofs.lemmas.List.Folds.{list_any-append}
+use Rattle.std.specs.List.{list_any}
+use Rattle.ladder_tree.specs.declared.element.CoilMode.TheVariants as mode
+use Rattle.ladder_tree.specs.declared.element.CoilMode.{CoilMode}
+use Rattle.ladder_tree.specs.declared.element.CompareHow.TheVariants.{Equ, Neq, Grt, Geq, Les, Leq}
+use Rattle.ladder_tree.specs.declared.element.CompareHow.{CompareHow}
+use Rattle.ladder_tree.specs.declared.element.CounterHow.TheVariants.{Ctu, Ctd, Ctc}
+use Rattle.ladder_tree.specs.declared.element.CounterHow.{CounterHow}
+use Rattle.ladder_tree.specs.declared.element.LeafKind.TheVariants.{Contacts, Coil, Timer, Counter, Move, Math, Compare, Shift, Table, SetPwm, Persist}
+use Rattle.ladder_tree.specs.declared.element.LeafKind.{LeafKind}
+use Rattle.ladder_tree.specs.declared.element.MathHow.TheVariants as math
+use Rattle.ladder_tree.specs.declared.element.MathHow.{MathHow}
+use Rattle.ladder_tree.specs.declared.element.TimerHow.TheVariants.{Ton, Tof, Rto}
+use Rattle.ladder_tree.specs.declared.element.TimerHow.{TimerHow}
+use Rattle.int_code.specs.declared.op.IntOp.TheVariants.{Pwm, Eewr, Tab}
+use Rattle.int_code.specs.declared.op.IntOp.{IntOp}
+use Rattle.int_code.specs.declared.op.NumSource.TheVariants.{V, N}
+use Rattle.int_code.specs.declared.op.NumSource.{NumSource}
+use Rattle.ladder_lower.specs.ElementCode.{coil_code, contact_code, timer_code, on_rise, counter_code, where_power, move_op, math_op, compare_code, moves, element_code}
+use Rattle.ladder_lower.specs.Wires.{number_of}
+use Rattle.ladder_lower.specs.declared.layout.Layout.{Layout}
+
+abbrev pub is_special : IntOp → Bool
+is_special (Pwm w hz) = true
+is_special (Eewr w a) = true
+is_special (Tab v w values) = true
+is_special op = false
+
+abbrev pub any_special : List IntOp → Bool
+any_special ops = list_any is_special ops
+
+abbrev pub is_special_kind : LeafKind → Bool
+is_special_kind (SetPwm name hz) = true
+is_special_kind (Persist name) = true
+is_special_kind (Table dest index as_text values) = true
+is_special_kind kind = false
+
+module _ (p : Layout) where
+  contact_plain : (neg : Bool) (name : List ℕ) → any_special (contact_code p neg name) ≡ false
+  contact_plain true name = refl
+  contact_plain false name = refl
+
+  coil_plain : (how : CoilMode) (name : List ℕ) → any_special (coil_code p how name) ≡ false
+  coil_plain mode.Plain name = refl
+  coil_plain mode.Negated name = refl
+  coil_plain mode.Set name = refl
+  coil_plain mode.Reset name = refl
+
+  timer_plain : (how : TimerHow) (v : ℕ) (limit : ℤ) → any_special (timer_code p how v limit) ≡ false
+  timer_plain Ton v limit = refl
+  timer_plain Tof v limit = refl
+  timer_plain Rto v limit = refl
+
+  rise_plain : (k : ℕ) (ops : List IntOp) → any_special ops ≡ false → any_special (on_rise p k ops) ≡ false
+  rise_plain k ops e = rw (list_any-append is_special ops, e) refl
+
+  counter_plain : (how : CounterHow) (v : ℕ) (max : ℤ) (k : ℕ) → any_special (counter_code p how v max k) ≡ false
+  counter_plain Ctu v max k = refl
+  counter_plain Ctd v max k = refl
+  counter_plain Ctc v max k = refl
+
+  move_plain : (v : ℕ) (w : NumSource) → any_special (where_power p (move_op v w)) ≡ false
+  move_plain v (V from) = refl
+  move_plain v (N n) = refl
+
+  math_plain : (how : MathHow) (v : ℕ) (w u : NumSource) → any_special (where_power p (math_op how v w u)) ≡ false
+  math_plain math.Add v w u = refl
+  math_plain math.Sub v w u = refl
+  math_plain math.Mul v w u = refl
+  math_plain math.Div v w u = refl
+
+  compare_plain : (how : CompareHow) (w u : NumSource) → any_special (compare_code p how w u) ≡ false
+  compare_plain Equ w u = refl
+  compare_plain Neq w u = refl
+  compare_plain Grt w u = refl
+  compare_plain Geq w u = refl
+  compare_plain Les w u = refl
+  compare_plain Leq w u = refl
+
+  moves_plain : (name : List ℕ) (places : ℕ) → any_special (moves p name places) ≡ false
+  moves_plain name zero = refl
+  moves_plain name (suc zero) = refl
+  moves_plain name (suc (suc k)) = moves_plain name (suc k)
+
+  pub element_plain : (kind : LeafKind) (k : ℕ) → any_special (element_code p kind k) ≡ is_special_kind kind
+  element_plain (Contacts name neg) k = contact_plain neg name
+  element_plain (Coil name how) k = coil_plain how name
+  element_plain (Timer how name delay) k = timer_plain how _ _
+  element_plain (Counter how name max) k = counter_plain how _ max k
+  element_plain (Move dest src) k = move_plain _ (number_of p src)
+  element_plain (Math how dest a b) k = math_plain how _ (number_of p a) (number_of p b)
+  element_plain (Compare how a b) k = compare_plain how _ _
+  element_plain (Shift name places) k = rise_plain k (moves p name places) (moves_plain name places)
+  element_plain _ k = refl

@@ -1,0 +1,7 @@
+use Rattle.ladder_lower.proofs.LoopLemmas.{moves_step}
+use Rattle.ladder_lower.proofs.numbers.emit_moves.Goals as goal
+
+pub loop-place-preserved : goal.loop-place-preserved
+loop-place-preserved c =
+    rw (c.in_ok-push.ensures.ok, c.variable_of.ensures, c.variable_of-in-loop-place.ensures, c.in_ok-to.ensures, c.in_ok-from.ensures)
+    (moves_step c.args.layout.now c.args.name.now c.loop-place.place c.loop-place.ops _ c.loop-place-test.true c.loop-place.invariant)

@@ -1,0 +1,105 @@
+//! The operations of elements that work on devices: analog inputs, the PWM, the serial line and the EEPROM.
+
+ghost use Rattle.std.specs.Prelude.{◌≡◌, [], ◌∷◌, ◌++◌, OnOk};
+ghost use Rattle.ladder_tree.specs.declared.element.LeafKind.{LeafKind};
+ghost use Rattle.ladder_lower.specs.ElementCode.{element_code, persist_code};
+ghost use Rattle.ladder_lower.specs.Wires.{Fits, spare};
+ghost use Rattle.int_code.specs.declared.op.BitDest.{BitDest};
+ghost use Rattle.int_code.specs.declared.op.BitSource.{BitSource};
+ghost use Rattle.int_code.specs.declared.op.IntOp.{IntOp};
+
+use crate::layout::Layout;
+use crate::power::emit_where_power;
+use int_code::op::{BitDest, BitSource, IntOp, NumSource, Ops};
+use ladder_tree::element::Name;
+use std::alloc::AllocError;
+
+/// READ_ADC sets a variable where there is power.
+pub fn emit_adc(ops: &mut Ops, layout: &Layout<'_>, name: &Name) -> Result<(), AllocError>
+    requires { Fits layout.now 0 }
+    ensures { OnOk result (ops.new ≡ ops.old ++ element_code layout.now (LeafKind.ReadAdc name.now) 0) }
+{
+    let v = layout.variable_of(name);
+    let k = layout.analog_of(name);
+    emit_where_power(ops, layout, IntOp::Adc { v, k })
+}
+
+/// SET_PWM sets the duty where there is power.
+pub fn emit_pwm(ops: &mut Ops, layout: &Layout<'_>, name: &Name, hz: u32) -> Result<(), AllocError>
+    requires { Fits layout.now 0 }
+    ensures { OnOk result (ops.new ≡ ops.old ++ element_code layout.now (LeafKind.SetPwm name.now hz) 0) }
+{
+    let w = NumSource::V(layout.variable_of(name));
+    emit_where_power(ops, layout, IntOp::Pwm { w, hz })
+}
+
+/// UART_RECV takes a byte where there is power. The power tells whether there was one.
+pub fn emit_recv(ops: &mut Ops, layout: &Layout<'_>, name: &Name) -> Result<(), AllocError>
+    requires { Fits layout.now 0 }
+    ensures { OnOk result (ops.new ≡ ops.old ++ element_code layout.now (LeafKind.Recv name.now) 0) }
+{
+    let v = layout.variable_of(name);
+    let b = BitDest::B(layout.power());
+    emit_where_power(ops, layout, IntOp::Rx { v, b })
+}
+
+/// UART_SEND sends a byte where there is power. The power tells whether the transmitter sends.
+pub fn emit_send(ops: &mut Ops, layout: &Layout<'_>, name: &Name) -> Result<(), AllocError>
+    requires { Fits layout.now 0 }
+    ensures { OnOk result (ops.new ≡ ops.old ++ element_code layout.now (LeafKind.Send name.now) 0) }
+{
+    let power = layout.power();
+    ops.push(IntOp::Tx {
+        w: NumSource::V(layout.variable_of(name)),
+        s: BitSource::B(power),
+        b: BitDest::B(power),
+    })
+}
+
+/// Where there is power and the variable was not loaded, it is, if the EEPROM is not busy. Then, if it is not busy and holds
+/// another number, that of the variable is written.
+pub fn emit_persist(ops: &mut Ops, layout: &Layout<'_>, name: &Name) -> Result<(), AllocError>
+    requires { Fits layout.now 0 }
+    ensures { OnOk result (ops.new ≡ ops.old ++ persist_code layout.now name.now) }
+{
+    let v = layout.variable_of(name);
+    let a = layout.persistent_of(name);
+    let flag = layout.flag_bit(name);
+    ops.push(IntOp::Ifs {
+        s: BitSource::B(layout.power()),
+    })?;
+    ops.push(IntOp::Ifc {
+        s: BitSource::B(flag),
+    })?;
+    emit_is_free(ops, layout)?;
+    ops.push(IntOp::Eerd { v, a })?;
+    ops.push(IntOp::Set {
+        b: BitDest::B(flag),
+    })?;
+    ops.push(IntOp::Fi)?;
+    ops.push(IntOp::Fi)?;
+    emit_is_free(ops, layout)?;
+    ops.push(IntOp::Ifee { v, a })?;
+    ops.push(IntOp::Els)?;
+    ops.push(IntOp::Eewr {
+        w: NumSource::V(v),
+        a,
+    })?;
+    ops.push(IntOp::Fi)?;
+    ops.push(IntOp::Fi)?;
+    ops.push(IntOp::Fi)
+}
+
+/// What follows runs where the EEPROM is not busy. The spare wire has the answer.
+fn emit_is_free(ops: &mut Ops, layout: &Layout<'_>) -> Result<(), AllocError>
+    requires { Fits layout.now 0 }
+    ensures { OnOk result (ops.new ≡ ops.old ++ IntOp.Eebusy (BitDest.B (spare layout.now)) ∷ IntOp.Ifc (BitSource.B (spare layout.now)) ∷ []) }
+{
+    let spare = layout.spare();
+    ops.push(IntOp::Eebusy {
+        b: BitDest::B(spare),
+    })?;
+    ops.push(IntOp::Ifc {
+        s: BitSource::B(spare),
+    })
+}

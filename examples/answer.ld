@@ -1,0 +1,23 @@
+LDmicro0.1
+MICRO=Interpretable Byte Code
+CYCLE=10000
+CRYSTAL=4000000
+BAUD=2400
+
+IO LIST
+END
+
+PROGRAM
+RUNG
+    UART_RECV got
+    COIL Rgot 0 0 0
+END
+RUNG
+    CONTACTS Rgot 0
+    ADD next got 1
+END
+RUNG
+    CONTACTS Rgot 0
+    UART_SEND next
+    COIL Ybusy 0 0 0
+END

@@ -1,0 +1,19 @@
+LDmicro0.1
+MICRO=Interpretable Byte Code
+CYCLE=10000
+CRYSTAL=4000000
+BAUD=2400
+
+IO LIST
+END
+
+PROGRAM
+RUNG
+    CONTACTS Xpart 0
+    CTU Cparts 3
+    COIL Yfull 0 0 0
+END
+RUNG
+    CONTACTS Xreset 0
+    RES Cparts
+END

@@ -1,0 +1,17 @@
+LDmicro0.1
+MICRO=Interpretable Byte Code
+CYCLE=10000
+CRYSTAL=4000000
+BAUD=2400
+
+IO LIST
+END
+
+PROGRAM
+RUNG
+    READ_ADC Aknob
+    DIV level Aknob 10
+END
+RUNG
+    SET_PWM level 1000
+END

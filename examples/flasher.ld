@@ -1,0 +1,21 @@
+LDmicro0.1
+MICRO=Interpretable Byte Code
+CYCLE=10000
+CRYSTAL=4000000
+BAUD=2400
+
+IO LIST
+END
+
+PROGRAM
+RUNG
+    CONTACTS Xon 0
+    CONTACTS Rlight 1
+    TON Tdark 20000
+    TOF Tlight 20000
+    COIL Rlight 0 0 0
+END
+RUNG
+    CONTACTS Rlight 0
+    COIL Ylamp 0 0 0
+END
