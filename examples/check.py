@@ -3,8 +3,9 @@
 
     python3 examples/check.py PROGRAM
 
-The runner below is an independent reading of docs/FORMATS.md. NAME.trace has the readings, and NAME.shown a line a
-cycle, written by hand. The last line printed is 'N passed, M failed'.
+NAME.trace has the readings, and NAME.shown a line a cycle, written by hand. The program's own commands `/s` and `/r` have
+to print these lines, and the runner below, an independent reading of docs/FORMATS.md, has to show them. The last line
+printed is 'N passed, M failed'.
 """
 import pathlib
 import subprocess
@@ -164,19 +165,17 @@ def steps_of(trace, names):
     return eeprom, readings
 
 
-def check(program, source):
-    with tempfile.TemporaryDirectory() as folder:
-        dest = pathlib.Path(folder, "out.int")
-        done = subprocess.run([program, "/c", str(source), str(dest)], capture_output=True, text=True)
-        if done.returncode != 0:
-            return f"status {done.returncode}: {done.stdout}"
-        text = dest.read_text()
+def printed(program, *words):
+    """What the program prints; an exit status other than 0 stands in front."""
+    done = subprocess.run([program, *map(str, words)], capture_output=True, text=True)
+    return done.stdout if done.returncode == 0 else f"status {done.returncode}: {done.stdout}"
+
+
+def check_text(text, trace, wanted):
+    """What is wrong with the lines that an interpretable text shows, or None."""
     run = Program(text, bytes(512))
-    eeprom, readings = steps_of(source.with_suffix(".trace").read_text(), run.names["input"] + run.names["analog"])
+    eeprom, readings = steps_of(trace, run.names["input"] + run.names["analog"])
     run.eeprom = bytearray(eeprom)
-    if f"operations {len(run.ops)}\n" not in done.stdout:
-        return "the report has another number of operations"
-    wanted = source.with_suffix(".shown").read_text().splitlines()
     if len(wanted) != len(readings):
         return f"{len(readings)} cycles, and {len(wanted)} lines"
     for number, (reading, line) in enumerate(zip(readings, wanted), 1):
@@ -184,6 +183,25 @@ def check(program, source):
         if run.shown(number) != line:
             return f"shows {run.shown(number)}, and not {line}"
     return None
+
+
+def check(program, source):
+    """What is wrong with an example, or None."""
+    trace, shown = source.with_suffix(".trace"), source.with_suffix(".shown").read_text()
+    with tempfile.TemporaryDirectory() as folder:
+        dest = pathlib.Path(folder, "out.int")
+        report = printed(program, "/c", source, dest)
+        if not report.startswith("target Interpretable\n"):
+            return report
+        for words in (["/s", source, trace], ["/r", source, dest, trace]):
+            lines = printed(program, *words)
+            if lines != shown:
+                return f"{words[0]} prints {lines}"
+        text = dest.read_text()
+    operations = text[text.index("\ncode\n") :].count("\n") - 3
+    if f"operations {operations}\n" not in report:
+        return "the report has another number of operations"
+    return check_text(text, trace.read_text(), shown.splitlines())
 
 
 def main():

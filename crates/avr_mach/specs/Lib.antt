@@ -1,5 +1,6 @@
 pub mod Arithmetic
 pub mod Control
+pub mod Groups
 pub mod Insn
 pub mod Memory
 pub mod Reset

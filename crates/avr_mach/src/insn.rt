@@ -1,6 +1,7 @@
-ghost use Rattle.std.specs.Prelude.{◌≡◌, ℕ, ◌+◌, ◌-◌, ◌*◌, ◌/◌, ◌%◌, ◌^◌, ◌<◌, ◌≤◌, IfSome};
+ghost use Rattle.std.specs.Prelude.{◌≡◌, ℕ, ◌+◌, ◌-◌, ◌*◌, ◌/◌, ◌%◌, ◌^◌, ◌<◌, ◌≤◌, true, IfSome};
 ghost use Rattle.avr_mach.specs.declared.insn.AvrInsn.{AvrInsn};
-ghost use Rattle.avr_mach.specs.Insn.{avr_decode, insn_of, FieldsFit, io_address, constant, displacement, long_place};
+ghost use Rattle.avr_mach.specs.Groups.{is_of_flow, is_of_data};
+ghost use Rattle.avr_mach.specs.Insn.{avr_decode, insn_of, FieldsFit, reg_d, io_address, constant, displacement, long_place};
 ghost use Rattle.avr_mach.specs.Words.{first_word, second_word, avr_words, size_of, two_regs, with_constant, with_long_place, displaced, DecodesBack};
 
 use insn_rows::{AvrKind, avr_kind};
@@ -108,9 +109,10 @@ fn with_fields(kind: AvrKind, w: u16, next: u16) -> AvrInsn
     ensures value { result ≡ insn_of kind w next }
     ensures fits { FieldsFit result }
 {
-    let d = (w / 16 % 32) as u8;
+    let d = reg_d(w);
     let r = (w / 512 % 2 * 16 + w % 16) as u8;
-    let b = (w % 8) as u8;
+    let high = d % 16 + 16;
+    let k = constant(w);
     match kind {
         AvrKind::Add => AvrInsn::Add { d, r },
         AvrKind::Adc => AvrInsn::Adc { d, r },
@@ -122,62 +124,63 @@ fn with_fields(kind: AvrKind, w: u16, next: u16) -> AvrInsn
         AvrKind::Eor => AvrInsn::Eor { d, r },
         AvrKind::Or => AvrInsn::Or { d, r },
         AvrKind::Mov => AvrInsn::Mov { d, r },
-        AvrKind::Cpi => AvrInsn::Cpi {
-            d: d % 16 + 16,
-            k: constant(w),
-        },
-        AvrKind::Ldi => AvrInsn::Ldi {
-            d: d % 16 + 16,
-            k: constant(w),
-        },
+        AvrKind::Cpi => AvrInsn::Cpi { d: high, k },
+        AvrKind::Ldi => AvrInsn::Ldi { d: high, k },
         AvrKind::Com => AvrInsn::Com { d },
         AvrKind::Inc => AvrInsn::Inc { d },
         AvrKind::Lsr => AvrInsn::Lsr { d },
         AvrKind::Ror => AvrInsn::Ror { d },
         AvrKind::Dec => AvrInsn::Dec { d },
-        AvrKind::Brbs => AvrInsn::Brbs {
-            s: b,
-            k: (w / 8 % 128) as u8,
-        },
-        AvrKind::Brbc => AvrInsn::Brbc {
-            s: b,
-            k: (w / 8 % 128) as u8,
-        },
-        AvrKind::Bset => AvrInsn::Bset { s: d % 8 },
-        AvrKind::Bclr => AvrInsn::Bclr { s: d % 8 },
+        AvrKind::St => AvrInsn::St { r: d },
+        AvrKind::Ret => AvrInsn::Ret,
+        AvrKind::Nop => AvrInsn::Nop,
+        AvrKind::Brbs | AvrKind::Brbc | AvrKind::Bset | AvrKind::Bclr => flow_insn(kind, w, next),
+        AvrKind::Rjmp | AvrKind::Rcall | AvrKind::Jmp | AvrKind::Call => flow_insn(kind, w, next),
+        _ => data_insn(kind, w, next),
+    }
+}
+
+// The same for a kind with a bit of the status register or a place of program flash.
+fn flow_insn(kind: AvrKind, w: u16, next: u16) -> AvrInsn
+    requires { is_of_flow kind ≡ true }
+    ensures value { result ≡ insn_of kind w next }
+    ensures fits { FieldsFit result }
+{
+    let s = (w % 8) as u8;
+    let flag = (w / 16 % 8) as u8;
+    let k = (w / 8 % 128) as u8;
+    let place = long_place(w, next);
+    match kind {
+        AvrKind::Brbs => AvrInsn::Brbs { s, k },
+        AvrKind::Brbc => AvrInsn::Brbc { s, k },
+        AvrKind::Bset => AvrInsn::Bset { s: flag },
+        AvrKind::Bclr => AvrInsn::Bclr { s: flag },
         AvrKind::Rjmp => AvrInsn::Rjmp { k: w % 4096 },
         AvrKind::Rcall => AvrInsn::Rcall { k: w % 4096 },
-        AvrKind::Jmp => AvrInsn::Jmp {
-            place: long_place(w, next),
-        },
-        AvrKind::Call => AvrInsn::Call {
-            place: long_place(w, next),
-        },
-        AvrKind::Ret => AvrInsn::Ret,
-        AvrKind::In => AvrInsn::In {
-            d,
-            a: io_address(w),
-        },
-        AvrKind::Out => AvrInsn::Out {
-            a: io_address(w),
-            r: d,
-        },
-        AvrKind::Cbi => AvrInsn::Cbi {
-            a: (w / 8 % 32) as u8,
-            b,
-        },
-        AvrKind::Sbi => AvrInsn::Sbi {
-            a: (w / 8 % 32) as u8,
-            b,
-        },
-        AvrKind::Sbic => AvrInsn::Sbic {
-            a: (w / 8 % 32) as u8,
-            b,
-        },
-        AvrKind::Sbis => AvrInsn::Sbis {
-            a: (w / 8 % 32) as u8,
-            b,
-        },
+        AvrKind::Jmp => AvrInsn::Jmp { place },
+        AvrKind::Call => AvrInsn::Call { place },
+        _ => unreachable!(),
+    }
+}
+
+// The same for a kind with a bit of a byte, an I/O address, a data address or a displacement.
+fn data_insn(kind: AvrKind, w: u16, next: u16) -> AvrInsn
+    requires { is_of_data kind ≡ true }
+    ensures value { result ≡ insn_of kind w next }
+    ensures fits { FieldsFit result }
+{
+    let d = reg_d(w);
+    let a = io_address(w);
+    let low = (w / 8 % 32) as u8;
+    let b = (w % 8) as u8;
+    let q = displacement(w);
+    match kind {
+        AvrKind::In => AvrInsn::In { d, a },
+        AvrKind::Out => AvrInsn::Out { a, r: d },
+        AvrKind::Cbi => AvrInsn::Cbi { a: low, b },
+        AvrKind::Sbi => AvrInsn::Sbi { a: low, b },
+        AvrKind::Sbic => AvrInsn::Sbic { a: low, b },
+        AvrKind::Sbis => AvrInsn::Sbis { a: low, b },
         AvrKind::Sbrc => AvrInsn::Sbrc { r: d, b },
         AvrKind::Sbrs => AvrInsn::Sbrs { r: d, b },
         AvrKind::Lds => AvrInsn::Lds { d, address: next },
@@ -185,17 +188,16 @@ fn with_fields(kind: AvrKind, w: u16, next: u16) -> AvrInsn
             address: next,
             r: d,
         },
-        AvrKind::Ldd => AvrInsn::Ldd {
-            d,
-            q: displacement(w),
-        },
-        AvrKind::Std => AvrInsn::Std {
-            q: displacement(w),
-            r: d,
-        },
-        AvrKind::St => AvrInsn::St { r: d },
-        AvrKind::Nop => AvrInsn::Nop,
+        AvrKind::Ldd => AvrInsn::Ldd { d, q },
+        AvrKind::Std => AvrInsn::Std { q, r: d },
+        _ => unreachable!(),
     }
+}
+
+fn reg_d(w: u16) -> u8
+    ensures { result ≡ reg_d w }
+{
+    (w / 16 % 32) as u8
 }
 
 fn io_address(w: u16) -> u8

@@ -1,8 +1,8 @@
 -- A program that runs, and what it shows of a project's names.
-use Rattle.std.specs.Prelude.{◌≡◌, ℕ, ◌*◌, ◌<◌, ◌≤◌, ◌^◌, List, [], ◌∷◌, ℤ, length, map, unsigned_abs, nat_eq, Bool, Option, None, Some, if◌then◌else◌}
-use Rattle.std.specs.List.{range_with_len}
+use Rattle.std.specs.Prelude.{◌≡◌, ◌<◌, ◌≤◌, ◌^◌, length, Bool}
 use Rattle.ladder_tree.specs.declared.names.Names.{Names}
 use Rattle.ladder_meaning.specs.declared.reading.View.{View}
+use Rattle.ladder_meaning.specs.View.{firsts, duty_of, sent_of, bytes_of}
 use Rattle.int_code.specs.Held.{store_of}
 use Rattle.int_code.specs.Store.{Store}
 use Rattle.int_code.specs.Uses.{has_pwm}
@@ -38,30 +38,17 @@ pub record HasPlaces (n : Names) (p : IntProgram) : Type 0 where
   pub variables : length n.variables ≡ p.variables
   pub relays : length n.relays ≤ p.bits
 
--- the first so many
-abbrev pub firsts : {A : Type 0} → ℕ → (ℕ → A) → List A
-firsts n f = map f (range_with_len 0 n)
-
--- the duty, where an operation sets it
-abbrev pub duty_of : Bool → ℤ → Option ℕ
-duty_of sets duty = if sets then Some (unsigned_abs duty) else None
-
--- the byte that was sent, if one was
-abbrev pub sent_of : List ℕ → Option ℕ
-sent_of [] = None
-sent_of (byte ∷ bytes) = Some byte
-
--- two bytes for each persistent variable, where there are any
-abbrev pub bytes_of : ℕ → (ℕ → ℕ) → Option (List ℕ)
-bytes_of persistent eeprom = if nat_eq persistent 0 then None else Some (firsts (2 * persistent) eeprom)
-
--- what a program shows of the names
-abbrev pub view_of : Names → IntProgram → Store → View
-view_of n p t = record {
+-- What a program shows of the names, and of the devices: the duty only where it is told to.
+abbrev pub view_by : Bool → Names → IntProgram → Store → View
+view_by shows_duty n p t = record {
   outputs = firsts p.outputs t.output;
   relays = firsts (length n.relays) t.bit;
   variables = firsts p.variables t.number;
-  pwm = duty_of (has_pwm p.ops) t.devices.duty;
+  pwm = duty_of shows_duty t.devices.duty;
   sent = sent_of t.devices.sent;
   eeprom = bytes_of p.persistent t.devices.eeprom;
 }
+
+-- the duty is shown where an operation sets it
+abbrev pub view_of : Names → IntProgram → Store → View
+view_of n p t = view_by (has_pwm p.ops) n p t

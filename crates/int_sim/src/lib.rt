@@ -3,4 +3,4 @@
 
 mod sim;
 
-pub use sim::Sim;
+pub use sim::{Sim, has_pwm};

@@ -4,7 +4,8 @@ ghost use Rattle.std.specs.Prelude.{◌≡◌, ◌<◌, ◌≤◌, length, slice
 ghost use Rattle.int_code.specs.Meaning as meaning;
 ghost use Rattle.int_code.specs.Store.{start};
 ghost use Rattle.int_code.specs.Uses.{is_pwm, has_pwm};
-ghost use Rattle.int_sim.specs.Machine.{state_of, bytes_of, duty_of, sent_of, IsRunnable, HasPlaces, view_of};
+ghost use Rattle.ladder_meaning.specs.View.{bytes_of, duty_of, sent_of};
+ghost use Rattle.int_sim.specs.Machine.{state_of, IsRunnable, HasPlaces, view_of, view_by};
 
 use int_code::cycle::cycle;
 use int_code::op::{IntOp, IntProgram};
@@ -97,10 +98,18 @@ impl Sim {
         self.state.devices.sent
     }
 
-    /// What the program shows of a project whose names have places in it.
+    /// What the program shows of a project whose names have places in it: the duty where an operation sets it.
     pub fn view(&self, alloc: Global, n: &Names) -> Result<View, AllocError>
         requires { HasPlaces n.now self.now.program }
         ensures { IfOk result (λ v. v ≡ view_of n.now self.now.program (state_of self.now)) }
+    {
+        self.view_by(alloc, n, self.sets_duty)
+    }
+
+    /// The same, with the duty where it is asked for.
+    pub fn view_by(&self, alloc: Global, n: &Names, shows_duty: bool) -> Result<View, AllocError>
+        requires { HasPlaces n.now self.now.program }
+        ensures { IfOk result (λ v. v ≡ view_by shows_duty n.now self.now.program (state_of self.now)) }
     {
         let outputs = self.state.outputs.to_vec(alloc)?;
         let relays = self.state.bits[..n.relays.len()].to_vec(alloc)?;
@@ -110,17 +119,17 @@ impl Sim {
             outputs: List::from_vec(outputs),
             relays: List::from_vec(relays),
             variables: List::from_vec(variables),
-            pwm: self.duty(),
+            pwm: self.duty(shows_duty),
             sent: self.state.devices.sent,
             eeprom,
         })
     }
 
-    /// The duty, where an operation sets it.
-    fn duty(&self) -> Option<u8>
-        ensures { result ≡ duty_of (has_pwm self.now.program.ops) (state_of self.now).devices.duty }
+    /// The duty, where it is shown.
+    fn duty(&self, is_shown: bool) -> Option<u8>
+        ensures { result ≡ duty_of is_shown (state_of self.now).devices.duty }
     {
-        if self.sets_duty {
+        if is_shown {
             Some(self.state.devices.duty)
         } else {
             None
@@ -141,7 +150,7 @@ fn saved(alloc: Global, persistent: u32, eeprom: &[u8; 512]) -> Result<Option<By
 }
 
 /// Whether an operation sets the duty.
-fn has_pwm(ops: &[IntOp]) -> bool
+pub fn has_pwm(ops: &[IntOp]) -> bool
     ensures { result ≡ has_pwm ops.now }
 {
     ops.iter().any(is_pwm)

@@ -11,7 +11,7 @@ use Rattle.int_code.specs.declared.op.IntOp.{IntOp}
 use Rattle.ladder_lower.specs.ElementCode.{element_code}
 use Rattle.ladder_lower.specs.NodeCode.{program_code}
 use Rattle.int_code.specs.Uses.{is_pwm, has_pwm}
-use Rattle.ladder_lower.specs.Outcome.{is_set_pwm, has_set_pwm}
+use Rattle.ladder_meaning.specs.View.{is_set_pwm, has_set_pwm}
 use Rattle.ladder_lower.specs.declared.layout.Layout.{Layout}
 use Rattle.ladder_lower.proofs.OrdinaryLemmas.{any_special, element_plain}
 use Rattle.ladder_lower.proofs.PartLemmas.{IsShared, program_holds}

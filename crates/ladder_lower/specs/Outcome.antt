@@ -1,9 +1,5 @@
 -- The sizes of a lowered program.
-use Rattle.std.specs.Prelude.{◌≡◌, ℕ, ◌+◌, ◌≤◌, Bool, true, false, List, [], ◌∷◌, length, map}
-use Rattle.std.specs.List.{list_any}
-use Rattle.ladder_tree.specs.declared.element.Leaf as leaf
-use Rattle.ladder_tree.specs.declared.element.LeafKind.{LeafKind}
-use Rattle.ladder_tree.specs.declared.element.LeafKind.TheVariants.{SetPwm}
+use Rattle.std.specs.Prelude.{◌≡◌, ℕ, ◌+◌, ◌≤◌, List, [], ◌∷◌, length, map}
 use Rattle.ladder_tree.specs.Leaves.{all_leaves}
 use Rattle.ladder_tree.specs.declared.names.Names.{Names}
 use Rattle.ladder_tree.specs.declared.project.Project.{Project}
@@ -46,11 +42,3 @@ pub record HasRoom (p : IntProgram) : Type 0 where
   pub ops : length p.ops ≤ 1000000
   pub tabs : tabs_in p.ops ≤ 40000
   pub bits : p.bits ≤ 100000
-
-abbrev pub is_set_pwm : LeafKind → Bool
-is_set_pwm (SetPwm name hz) = true
-is_set_pwm kind = false
-
--- whether there is a SET_PWM
-abbrev pub has_set_pwm : List leaf.Leaf → Bool
-has_set_pwm ls = list_any (λ l. is_set_pwm l.kind) ls

@@ -5,4 +5,5 @@ pub mod Persist
 pub mod Element
 pub mod Node
 pub mod Cycle
+pub mod View
 pub mod Rows

@@ -10,6 +10,7 @@ use ladder_tree::fault::ProjectFault;
 use ladder_tree::names::names_in_order;
 use ladder_tree::project::{Node, Nodes, PinList, Project, Rung, Rungs};
 use std::alloc::{AllocError, Global};
+use std::process::Abort;
 use std::test::Fail;
 
 /// The word of an element's line.
@@ -139,97 +140,88 @@ fn refusal(
     Ok(judge(alloc, Target::Interp, cycle, rungs)?.err())
 }
 
-#[test]
-fn refuses_with_the_line(rt: HostRuntime) -> Result<(), Fail> {
-    let line = 13;
-    let rows: [(u32, Sample, Sample, Option<ProjectFault>); 16] = [
-        (10_000, CONTACT, COIL, None),
-        (
-            10_000,
-            COIL,
-            CONTACT,
-            Some(ProjectFault::NotRightmost { line: 12 }),
-        ),
-        (
-            0,
-            (Word::Ctc, b"Ca", 0),
-            (Word::Coil, b"Xa", 0),
-            Some(ProjectFault::NotRightmost { line: 12 }),
-        ),
-        (
-            10_000,
-            CONTACT,
-            (Word::Coil, b"Xa", 0),
-            Some(ProjectFault::WrongKind { line }),
-        ),
-        (
-            10_000,
-            CONTACT,
-            (Word::Res, b"Xa", 0),
-            Some(ProjectFault::WrongKind { line }),
-        ),
-        (
-            10_000,
-            CONTACT,
-            (Word::ReadAdc, b"a", 0),
-            Some(ProjectFault::WrongKind { line }),
-        ),
-        (
-            10_000,
-            CONTACT,
-            (Word::Placeholder, b"", 0),
-            Some(ProjectFault::WrongKind { line }),
-        ),
-        (
-            10_000,
-            (Word::Ton, b"Ta", 9999),
-            (Word::Tof, b"Ta", 20_000),
-            Some(ProjectFault::TimerTwice { line, first: 12 }),
-        ),
-        (
-            10_000,
-            CONTACT,
-            (Word::Ton, b"Td", 9999),
-            Some(ProjectFault::TimerShort { line }),
-        ),
-        (10_000, CONTACT, (Word::Ton, b"Td", 10_000), None),
-        (
-            10_000,
-            CONTACT,
-            (Word::Ton, b"Td", 327_680_000),
-            Some(ProjectFault::TimerLong { line }),
-        ),
-        (10_000, CONTACT, (Word::Ton, b"Td", 327_670_000), None),
-        (
-            10_000,
-            (Word::SetPwm, b"v", 1000),
-            (Word::SetPwm, b"w", 2000),
-            Some(ProjectFault::PwmTwoRates { line }),
-        ),
-        (
-            10_000,
-            (Word::SetPwm, b"v", 1000),
-            (Word::SetPwm, b"w", 1000),
-            None,
-        ),
-        (
-            0,
-            CONTACT,
-            (Word::Ton, b"Td", 9999),
-            Some(ProjectFault::CycleRange { line: 0 }),
-        ),
-        (
-            0,
-            CONTACT,
-            (Word::Res, b"Xa", 0),
-            Some(ProjectFault::WrongKind { line }),
-        ),
-    ];
-    for (cycle, first, second, want) in rows {
-        let fault = refusal(rt.alloc(), cycle, first, second)?;
-        assert_eq!(rt; fault, want, "at {first:?} {second:?}");
+/// A cycle, the elements on lines 12 and 13, and the fault that they have.
+type Case = (u32, Sample, Sample, Option<ProjectFault>);
+
+/// Fails at the first case that has another fault.
+fn judge_each(rt: &(impl Abort + AllocGlobal), cases: &[Case]) -> Result<(), Fail> {
+    for (cycle, first, second, want) in cases {
+        let fault = refusal(rt.alloc(), *cycle, *first, *second)?;
+        assert_eq!(rt; fault, *want, "at {first:?} {second:?}");
     }
     Ok(())
+}
+
+#[test]
+fn refuses_an_end_of_a_rung_before_its_end(rt: HostRuntime) -> Result<(), Fail> {
+    let fault = Some(ProjectFault::NotRightmost { line: 12 });
+    let counter = (Word::Ctc, b"Ca".as_slice(), 0);
+    let input = (Word::Coil, b"Xa".as_slice(), 0);
+    judge_each(
+        &rt,
+        &[
+            (10_000, CONTACT, COIL, None),
+            (10_000, COIL, CONTACT, fault),
+            (0, counter, input, fault),
+        ],
+    )
+}
+
+#[test]
+fn refuses_names_of_another_kind(rt: HostRuntime) -> Result<(), Fail> {
+    let fault = Some(ProjectFault::WrongKind { line: 13 });
+    judge_each(
+        &rt,
+        &[
+            (10_000, CONTACT, (Word::Coil, b"Xa", 0), fault),
+            (10_000, CONTACT, (Word::Res, b"Xa", 0), fault),
+            (10_000, CONTACT, (Word::ReadAdc, b"a", 0), fault),
+            (10_000, CONTACT, (Word::Placeholder, b"", 0), fault),
+            (0, CONTACT, (Word::Res, b"Xa", 0), fault),
+        ],
+    )
+}
+
+#[test]
+fn refuses_a_second_timer_of_a_name(rt: HostRuntime) -> Result<(), Fail> {
+    let fault = Some(ProjectFault::TimerTwice {
+        line: 13,
+        first: 12,
+    });
+    let on_delay = (Word::Ton, b"Ta".as_slice(), 9999);
+    let off_delay = (Word::Tof, b"Ta".as_slice(), 20_000);
+    judge_each(&rt, &[(10_000, on_delay, off_delay, fault)])
+}
+
+#[test]
+fn refuses_delays_that_no_timer_counts(rt: HostRuntime) -> Result<(), Fail> {
+    let line = 13;
+    let short = Some(ProjectFault::TimerShort { line });
+    let long = Some(ProjectFault::TimerLong { line });
+    let no_cycle = Some(ProjectFault::CycleRange { line: 0 });
+    judge_each(
+        &rt,
+        &[
+            (10_000, CONTACT, (Word::Ton, b"Td", 9999), short),
+            (10_000, CONTACT, (Word::Ton, b"Td", 10_000), None),
+            (10_000, CONTACT, (Word::Ton, b"Td", 327_680_000), long),
+            (10_000, CONTACT, (Word::Ton, b"Td", 327_670_000), None),
+            (0, CONTACT, (Word::Ton, b"Td", 9999), no_cycle),
+        ],
+    )
+}
+
+#[test]
+fn refuses_a_second_rate(rt: HostRuntime) -> Result<(), Fail> {
+    let fault = Some(ProjectFault::PwmTwoRates { line: 13 });
+    let rate = (Word::SetPwm, b"v".as_slice(), 1000);
+    judge_each(
+        &rt,
+        &[
+            (10_000, rate, (Word::SetPwm, b"w", 2000), fault),
+            (10_000, rate, (Word::SetPwm, b"w", 1000), None),
+        ],
+    )
 }
 
 #[test]

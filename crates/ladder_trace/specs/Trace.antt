@@ -1,11 +1,12 @@
 -- What a trace says: its steps and its EEPROM, or the first line at which it is refused.
-use Rattle.std.specs.Prelude.{◌≡◌, ℕ, ◌+◌, Bool, true, false, List, [], ◌∷◌, length, take, nat_lt, Option, None, Some, Result, Ok, Err}
+use Rattle.std.specs.Prelude.{◌≡◌, ℕ, ◌+◌, ◌≤◌, Bool, true, false, List, [], ◌∷◌, length, take, nat_lt, Option, None, Some, Result, Ok, Err, All, sum_by}
 use Rattle.ld_base.specs.Lines.{lines}
 use Rattle.ladder_tree.specs.declared.names.Names.{Names}
 use Rattle.ladder_trace.specs.declared.trace.Trace.{Trace}
 use Rattle.ladder_trace.specs.declared.trace.TraceError.{TraceError}
 use Rattle.ladder_trace.specs.declared.trace.TraceError.TheVariants.{Fault, Memory}
-use Rattle.ladder_trace.specs.Line.{Draft, start, line_says}
+use Rattle.ladder_trace.specs.Token.{IsReadingOf}
+use Rattle.ladder_trace.specs.Line.{Draft, start, line_says, most_cycles, eeprom_size}
 
 abbrev pub or_refused : {A : Type 0} → ℕ → (Draft → Result A ℕ) → Option Draft → Result A ℕ
 or_refused line go_on None = Err line
@@ -43,3 +44,9 @@ verdict n text = verdict_by (nat_lt most_bytes (length text)) (length (lines (ju
 abbrev pub IsCaused : Names → List ℕ → TraceError → Type 0
 IsCaused n text (Fault line) = verdict n text ≡ Err line
 IsCaused n text (Memory e) = Unit {0}
+
+-- a trace as it is read: readings of the names, no more cycles than there may be, and a whole EEPROM
+pub record IsTraceOf (n : Names) (t : Trace) : Type 0 where
+  pub readings : All (λ s. IsReadingOf n s.reading) t.steps
+  pub cycles : sum_by (λ s. s.times) t.steps ≤ most_cycles
+  pub eeprom : length t.eeprom ≡ eeprom_size

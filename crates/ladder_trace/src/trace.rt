@@ -2,7 +2,7 @@
 
 ghost use Rattle.std.specs.Prelude.{◌≡◌, ◌+◌, ◌≤◌, ◌<◌, ◌^◌, length, Ok, IfOk, IfErr};
 ghost use Rattle.ld_base.specs.Lines.{lines};
-ghost use Rattle.ladder_trace.specs.Trace.{verdict, judged, most_bytes, IsCaused};
+ghost use Rattle.ladder_trace.specs.Trace.{verdict, judged, most_bytes, IsCaused, IsTraceOf};
 ghost use Rattle.ladder_trace.specs.Held.{IsOutcome};
 
 use crate::reader::Reader;
@@ -60,6 +60,7 @@ pub enum Outcome {
 pub fn read_trace(alloc: Global, names: &Names, text: &[u8]) -> Result<Trace, TraceError>
     ensures trace { IfOk result (λ trace. verdict names.now text.now ≡ Ok trace) }
     ensures error { IfErr result (λ e. IsCaused names.now text.now e) }
+    ensures fits { IfOk result (IsTraceOf names.now) }
 {
     let outcome = match read_lines(alloc, names, judged(text)) {
         Ok(outcome) => outcome,

@@ -177,10 +177,8 @@ RUNG
 END
 ";
 
-#[test]
-fn prints_the_traffic_light(rt: HostRuntime) -> Result<(), Fail> {
-    let alloc = rt.alloc();
-    let mut light = empty(alloc, Target::F877);
+fn light(alloc: Global, target: Target) -> Result<Project, AllocError> {
+    let mut light = empty(alloc, target);
     light_pins(alloc, &mut light)?;
     let rungs = [
         tick(alloc)?,
@@ -195,8 +193,42 @@ fn prints_the_traffic_light(rt: HostRuntime) -> Result<(), Fail> {
     for nodes in rungs {
         light.rungs.push(Rung { nodes })?;
     }
-    let text = write_project(alloc, &light)?;
+    Ok(light)
+}
+
+#[test]
+fn prints_the_traffic_light(rt: HostRuntime) -> Result<(), Fail> {
+    let alloc = rt.alloc();
+    let text = write_project(alloc, &light(alloc, Target::F877)?)?;
     assert_eq!(rt; text.as_slice(), LIGHT.as_bytes());
+    Ok(())
+}
+
+/// All that a project holds, but for the numbers of lines.
+fn without_lines(alloc: Global, project: &Project) -> Result<Vec<u8>, AllocError> {
+    let text = format!(in alloc; "{project:?}")?;
+    let mut kept = Vec::new(alloc);
+    for byte in text.bytes() {
+        if !byte.is_ascii_digit() || !kept.as_slice().ends_with(b"line: ") {
+            kept.push(byte)?;
+        }
+    }
+    Ok(kept)
+}
+
+/// Prints a project and reads what was printed: whether that is an equal project, which prints the same.
+fn is_read_again(alloc: Global, project: &Project) -> Result<bool, Fail> {
+    let printed = write_project(alloc, project)?;
+    let again = read_project(alloc, printed.as_slice())?;
+    let equal = without_lines(alloc, project)? == without_lines(alloc, &again)?;
+    let same = write_project(alloc, &again)?.as_slice() == printed.as_slice();
+    Ok(equal && same)
+}
+
+#[test]
+fn the_traffic_light_is_read_again(rt: HostRuntime) -> Result<(), Fail> {
+    let light = light(rt.alloc(), Target::Interp)?;
+    assert!(rt; is_read_again(rt.alloc(), &light)?);
     Ok(())
 }
 
@@ -425,6 +457,7 @@ fn prints_what_was_read(rt: HostRuntime) -> Result<(), Fail> {
         let project = read_project(alloc, text.as_bytes())?;
         let printed = write_project(alloc, &project)?;
         assert_eq!(rt; printed.as_slice(), READ_BACK.as_bytes());
+        assert!(rt; is_read_again(alloc, &project)?);
     }
     Ok(())
 }
@@ -553,6 +586,7 @@ fn prints_every_element_that_was_read(rt: HostRuntime) -> Result<(), Fail> {
         let project = read_project(alloc, text.as_bytes())?;
         let printed = write_project(alloc, &project)?;
         assert_eq!(rt; printed.as_slice(), EVERY_PRINTED.as_bytes());
+        assert!(rt; is_read_again(alloc, &project)?);
     }
     Ok(())
 }

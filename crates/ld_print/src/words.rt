@@ -1,11 +1,11 @@
 //! The lines that elements are printed as.
 
-ghost use Rattle.std.specs.Prelude.{◌≡◌, ◌∷◌, ◌++◌, OnOk, map};
+ghost use Rattle.std.specs.Prelude.{◌≡◌, ◌/◌, [], ◌∷◌, ◌++◌, OnOk, map, length};
 ghost use Rattle.std.specs.Fmt.{decimal, signed_decimal};
 ghost use Rattle.ld_print.specs.Words.{timer_word, counter_word, math_word, compare_word, word, flag, mode_flags, operand_text, comment_tokens, integers, tokens_behind, behind_spaces, element_words};
 
 use ladder_tree::element::{
-    CoilMode, CompareHow, CounterHow, LeafKind, MathHow, Operand, TimerHow,
+    CoilMode, CompareHow, CounterHow, LeafKind, MathHow, Name, Operand, TimerHow,
 };
 use std::alloc::{AllocError, Global};
 
@@ -169,19 +169,130 @@ fn push_comment(line: &mut Vec<u8>, text: &[u8]) -> Result<(), AllocError>
     push_token(line, text)
 }
 
+/// Appends the name of contacts and whether they are negated.
+fn push_contacts(line: &mut Vec<u8>, name: &Name, neg: bool) -> Result<(), AllocError>
+    ensures { OnOk result (line.new.items ≡ line.old.items ++ behind_spaces (name.now ∷ flag neg ∷ [])) }
+{
+    push_token(line, name.as_slice())?;
+    push_flag(line, neg)
+}
+
+/// Appends the name of a coil and its flags.
+fn push_coil(line: &mut Vec<u8>, name: &Name, mode: CoilMode) -> Result<(), AllocError>
+    ensures { OnOk result (line.new.items ≡ line.old.items ++ behind_spaces (name.now ∷ mode_flags mode)) }
+{
+    push_token(line, name.as_slice())?;
+    push_mode(line, mode)
+}
+
+/// Appends a name and a delay, a rate or a count.
+fn push_sized(alloc: Global, line: &mut Vec<u8>, name: &Name, size: usize) -> Result<(), AllocError>
+    ensures { OnOk result (line.new.items ≡ line.old.items ++ behind_spaces (name.now ∷ decimal size ∷ [])) }
+{
+    push_token(line, name.as_slice())?;
+    push_natural(alloc, line, size)
+}
+
+/// Appends the name of a counter and its limit.
+fn push_counter(alloc: Global, line: &mut Vec<u8>, name: &Name, max: i16) -> Result<(), AllocError>
+    ensures { OnOk result (line.new.items ≡ line.old.items ++ behind_spaces (name.now ∷ signed_decimal max ∷ [])) }
+{
+    push_token(line, name.as_slice())?;
+    push_integer(alloc, line, max)
+}
+
+/// Appends where a value goes and one operand.
+fn push_dest_and_operand(
+    alloc: Global,
+    line: &mut Vec<u8>,
+    dest: &Name,
+    src: &Operand,
+) -> Result<(), AllocError>
+    ensures { OnOk result (line.new.items ≡ line.old.items ++ behind_spaces (dest.now ∷ operand_text src.now ∷ [])) }
+{
+    push_token(line, dest.as_slice())?;
+    push_operand(alloc, line, src)
+}
+
+/// Appends two operands.
+fn push_operands(
+    alloc: Global,
+    line: &mut Vec<u8>,
+    a: &Operand,
+    b: &Operand,
+) -> Result<(), AllocError>
+    ensures { OnOk result (line.new.items ≡ line.old.items ++ behind_spaces (operand_text a.now ∷ operand_text b.now ∷ [])) }
+{
+    push_operand(alloc, line, a)?;
+    push_operand(alloc, line, b)
+}
+
+/// Appends where a value goes and two operands.
+fn push_math(
+    alloc: Global,
+    line: &mut Vec<u8>,
+    dest: &Name,
+    a: &Operand,
+    b: &Operand,
+) -> Result<(), AllocError>
+    ensures { OnOk result (line.new.items ≡ line.old.items ++ behind_spaces (dest.now ∷ operand_text a.now ∷ operand_text b.now ∷ [])) }
+{
+    push_dest_and_operand(alloc, line, dest, a)?;
+    push_operand(alloc, line, b)
+}
+
+/// Appends what stands behind the word of a look-up table.
+fn push_table(
+    alloc: Global,
+    line: &mut Vec<u8>,
+    dest: &Name,
+    index: &Operand,
+    as_text: bool,
+    values: &[i16],
+) -> Result<(), AllocError>
+    ensures { OnOk result (line.new.items ≡ line.old.items ++ behind_spaces (dest.now ∷ operand_text index.now ∷ decimal (length values.now) ∷ flag as_text ∷ integers values.now)) }
+{
+    push_dest_and_operand(alloc, line, dest, index)?;
+    push_natural(alloc, line, values.len())?;
+    push_flag(line, as_text)?;
+    push_integers(alloc, line, values)
+}
+
+/// Appends what stands behind the word of a piecewise linear table, whose points are pairs.
+fn push_linear(
+    alloc: Global,
+    line: &mut Vec<u8>,
+    dest: &Name,
+    index: &Operand,
+    points: &[i16],
+) -> Result<(), AllocError>
+    ensures { OnOk result (line.new.items ≡ line.old.items ++ behind_spaces (dest.now ∷ operand_text index.now ∷ decimal (length points.now / 2) ∷ integers points.now)) }
+{
+    push_dest_and_operand(alloc, line, dest, index)?;
+    push_natural(alloc, line, points.len() / 2)?;
+    push_integers(alloc, line, points)
+}
+
+/// Appends a name, how many bytes a text has, and its bytes.
+fn push_formatted(
+    alloc: Global,
+    line: &mut Vec<u8>,
+    name: &Name,
+    text: &[u8],
+) -> Result<(), AllocError>
+    ensures { OnOk result (line.new.items ≡ line.old.items ++ behind_spaces (name.now ∷ decimal (length text.now) ∷ map decimal text.now)) }
+{
+    push_sized(alloc, line, name, text.len())?;
+    push_bytes(alloc, line, text)
+}
+
 /// Appends what stands behind an element's word.
 fn push_behind(alloc: Global, line: &mut Vec<u8>, kind: &LeafKind) -> Result<(), AllocError>
     ensures { OnOk result (line.new.items ≡ line.old.items ++ behind_spaces (tokens_behind kind.now)) }
 {
     match kind {
-        LeafKind::Contacts { name, neg } => {
-            push_token(line, name.as_slice())?;
-            push_flag(line, *neg)
-        }
-        LeafKind::Coil { name, mode } => {
-            push_token(line, name.as_slice())?;
-            push_mode(line, *mode)
-        }
+        LeafKind::Contacts { name, neg } => push_contacts(line, name, *neg),
+        LeafKind::Coil { name, mode } => push_coil(line, name, *mode),
         LeafKind::Osr
         | LeafKind::Osf
         | LeafKind::Short
@@ -189,47 +300,19 @@ fn push_behind(alloc: Global, line: &mut Vec<u8>, kind: &LeafKind) -> Result<(),
         | LeafKind::MasterRelay
         | LeafKind::Placeholder => Ok(()),
         LeafKind::Comment { text } => push_comment(line, text.as_slice()),
-        LeafKind::Timer { name, delay, .. } => {
-            push_token(line, name.as_slice())?;
-            push_natural(alloc, line, *delay as usize)
-        }
-        LeafKind::Counter { name, max, .. } => {
-            push_token(line, name.as_slice())?;
-            push_integer(alloc, line, *max)
-        }
-        LeafKind::Move { dest, src } => {
-            push_token(line, dest.as_slice())?;
-            push_operand(alloc, line, src)
-        }
-        LeafKind::Math { dest, a, b, .. } => {
-            push_token(line, dest.as_slice())?;
-            push_operand(alloc, line, a)?;
-            push_operand(alloc, line, b)
-        }
-        LeafKind::Compare { a, b, .. } => {
-            push_operand(alloc, line, a)?;
-            push_operand(alloc, line, b)
-        }
-        LeafKind::Shift { name, places } => {
-            push_token(line, name.as_slice())?;
-            push_natural(alloc, line, usize::from(*places))
-        }
+        LeafKind::Timer { name, delay, .. } => push_sized(alloc, line, name, *delay as usize),
+        LeafKind::Counter { name, max, .. } => push_counter(alloc, line, name, *max),
+        LeafKind::Move { dest, src } => push_dest_and_operand(alloc, line, dest, src),
+        LeafKind::Math { dest, a, b, .. } => push_math(alloc, line, dest, a, b),
+        LeafKind::Compare { a, b, .. } => push_operands(alloc, line, a, b),
+        LeafKind::Shift { name, places } => push_sized(alloc, line, name, usize::from(*places)),
         LeafKind::Table {
             dest,
             index,
             as_text,
             values,
-        } => {
-            push_token(line, dest.as_slice())?;
-            push_operand(alloc, line, index)?;
-            push_natural(alloc, line, values.len())?;
-            push_flag(line, *as_text)?;
-            push_integers(alloc, line, values.as_slice())
-        }
-        LeafKind::SetPwm { name, hz } => {
-            push_token(line, name.as_slice())?;
-            push_natural(alloc, line, *hz as usize)
-        }
+        } => push_table(alloc, line, dest, index, *as_text, values.as_slice()),
+        LeafKind::SetPwm { name, hz } => push_sized(alloc, line, name, *hz as usize),
         LeafKind::Reset { name }
         | LeafKind::ReadAdc { name }
         | LeafKind::Recv { name }
@@ -239,17 +322,8 @@ fn push_behind(alloc: Global, line: &mut Vec<u8>, kind: &LeafKind) -> Result<(),
             dest,
             index,
             points,
-        } => {
-            push_token(line, dest.as_slice())?;
-            push_operand(alloc, line, index)?;
-            push_natural(alloc, line, points.len() / 2)?;
-            push_integers(alloc, line, points.as_slice())
-        }
-        LeafKind::Formatted { name, text } => {
-            push_token(line, name.as_slice())?;
-            push_natural(alloc, line, text.len())?;
-            push_bytes(alloc, line, text.as_slice())
-        }
+        } => push_linear(alloc, line, dest, index, points.as_slice()),
+        LeafKind::Formatted { name, text } => push_formatted(alloc, line, name, text.as_slice()),
     }
 }
 

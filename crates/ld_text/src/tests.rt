@@ -364,18 +364,23 @@ fn pieces_do_not_matter(rt: HostRuntime) -> Result<(), Fail> {
     Ok(())
 }
 
-/// A traffic light, cut behind its second rung.
+/// A traffic light, as a maker's editor saves it: with carriage returns, and the line that a compile leaves.
 const TRAFFIC_LIGHT: &str =
-    "LDmicro0.1\r\nMICRO=Interpretable Byte Code\r\nCYCLE=10000\r\nCRYSTAL=4000000\r\nBAUD=2400\r\nCOMPILED=light.int\r\n\r\nIO LIST\r\n    Xrun at 2\r\n    Yred at 6\r\n    Ygreen at 7\r\nEND\r\n\r\nPROGRAM\r\nRUNG\r\n    CONTACTS Xrun 0\r\n    CONTACTS Rtick 1\r\n    TON Ttick 20000\r\n    COIL Rtick 0 0 0\r\nEND\r\nRUNG\r\n    CONTACTS Rtick 0\r\n    CTC Cstep 2\r\nEND\r\n";
+    "LDmicro0.1\r\nMICRO=Interpretable Byte Code\r\nCYCLE=10000\r\nCRYSTAL=4000000\r\nBAUD=2400\r\nCOMPILED=light.int\r\n\r\nIO LIST\r\n    Xrun at 2\r\n    Yred at 6\r\n    Ygreen at 7\r\n    Yamber at 8\r\n    Ygo at 17\r\nEND\r\n\r\nPROGRAM\r\nRUNG\r\n    CONTACTS Xrun 0\r\n    CONTACTS Rtick 1\r\n    TON Ttick 20000\r\n    COIL Rtick 0 0 0\r\nEND\r\nRUNG\r\n    CONTACTS Rtick 0\r\n    CTC Cstep 2\r\nEND\r\nRUNG\r\n    EQU Cstep 0\r\n    COIL Yred 0 0 0\r\nEND\r\nRUNG\r\n    EQU Cstep 1\r\n    COIL Ygreen 0 0 0\r\nEND\r\nRUNG\r\n    EQU Cstep 2\r\n    COIL Yamber 0 0 0\r\nEND\r\nRUNG\r\n    COMMENT stop and go\r\nEND\r\nRUNG\r\n    PARALLEL\r\n        CONTACTS Yred 0\r\n        CONTACTS Yamber 0\r\n    END\r\n    COIL Rstop 0 0 0\r\nEND\r\nRUNG\r\n    CONTACTS Rstop 1\r\n    COIL Ygo 0 0 0\r\nEND\r\n";
 
 #[test]
-fn the_traffic_light_in_bytes(rt: HostRuntime) -> Result<(), Fail> {
-    match read_by_bytes(rt.alloc(), TRAFFIC_LIGHT.as_bytes()) {
-        Ok(light) => {
+fn the_traffic_light_in_bytes_and_whole(rt: HostRuntime) -> Result<(), Fail> {
+    let alloc = rt.alloc();
+    let text = TRAFFIC_LIGHT.as_bytes();
+    match (read_by_bytes(alloc, text), read_project(alloc, text)) {
+        (Ok(light), Ok(whole)) => {
             assert_eq!(rt;
                 (light.cycle, light.pins.len(), light.rungs.len()),
-                (10_000, 3, 2)
+                (10_000, 5, 8)
             );
+            let light = format!(in alloc; "{light:?}")?;
+            let whole = format!(in alloc; "{whole:?}")?;
+            assert_eq!(rt; light.as_str(), whole.as_str());
         }
         _ => return Err(Fail::new("refused")),
     }

@@ -33,7 +33,7 @@ mapped_at f (x ∷ xs) zero lt = refl
 mapped_at f (x ∷ xs) (suc k) lt = mapped_at f xs k (omega arith)
 
 -- variables start as the ladder's do, and all else is off
-start_shown : (n : Names) (p : Project) (program : IntProgram) (eeprom : ℕ → ℕ) → HasSizes n p program → Shows n (start p eeprom) (store.start program.starts eeprom)
+pub start_shown : (n : Names) (p : Project) (program : IntProgram) (eeprom : ℕ → ℕ) → HasSizes n p program → Shows n (start p eeprom) (store.start program.starts eeprom)
 start_shown n p program eeprom sizes = record {
   outputs = λ k lt. refl;
   relays = λ k lt. refl;

@@ -1,5 +1,5 @@
 -- A project that is read and keeps the rules has only numbers that operations hold.
-use Rattle.std.proofs.Common.{◌≡◌, ◌≢◌, ℕ, ◌/◌, ℤ, Bool, true, false, not, ◌&&◌, nat_eq, nat_lt, nat_le, List, [], ◌∷◌, ◌++◌, length, Option, Some, None, refl, sym, ap, ◌∙◌, arith}
+use Rattle.std.proofs.Common.{◌≡◌, ◌≢◌, ℕ, Bool, true, false, not, ◌&&◌, nat_eq, nat_lt, nat_le, List, [], ◌∷◌, ◌++◌, Option, Some, None, refl, sym, ap, ◌∙◌, arith}
 use Rattle.std.proofs.lemmas.Bool.Decides.{nat_tests}
 use Rattle.std.specs.Bool.{then_some}
 use Rattle.std.specs.List.{list_all}
@@ -15,7 +15,7 @@ use Rattle.ladder_tree.specs.declared.fault.ProjectFault.{ProjectFault}
 use Rattle.ladder_tree.specs.declared.project.Project.{Project}
 use Rattle.ladder_rules.specs.Places.{Placed, all_placed, spots_behind}
 use Rattle.ladder_rules.specs.Rules.{is_long, fault_of}
-use Rattle.ladder_rules.specs.Verdict.{first_fault, first_of, offence, cycle_range, rule}
+use Rattle.ladder_rules.specs.Verdict.{first_fault, offence, cycle_range, rule}
 use Rattle.ladder_rules.specs.declared.rule.ElementRule.TheVariants.{NotRightmost, WrongKind, TimerTwice, TimerShort, TimerLong, PwmTwoRates}
 use Rattle.ladder_rules.proofs.WalkLemmas.{elements, all_kept}
 use Rattle.ladder_meaning.specs.Numbers.{period}

@@ -1,59 +1,190 @@
--- What was read of a source, which may be cut behind its limit, answers for the source.
-use Rattle.std.proofs.Common.{◌≡◌, inl, inr, ℕ, List, Option, Some, None, Result, Ok, Err, IfOk, IfErr, sym, ap, ◌∙◌, subst}
-use Rattle.std.specs.Option.{option_or}
-use Rattle.std.specs.String.{string_bytes}
-use Rattle.ld_base.specs.Bytes.{Held}
-use Rattle.ladder_tree.specs.Names.{names_of}
+-- What the files of a command hold, and the answers that follow.
+use Rattle.std.proofs.Common.{◌≡◌, ◌≢◌, ◌⊎◌, inl, inr, ℕ, ◌≤◌, Bool, true, false, List, length, Option, Some, None, Ok, Err, refl, sym, ap, ◌∙◌, subst, le_refl, arith}
+use Rattle.ld_base.specs.Bytes.{Held, SameHeld}
+use Rattle.ld_base.specs.Counts.{Counts, Rose}
 use Rattle.ladder_tree.specs.declared.fault.ProjectFault.{ProjectFault}
+use Rattle.ladder_tree.specs.declared.names.Names.{Names}
 use Rattle.ladder_tree.specs.declared.project.Project.{Project}
-use Rattle.ladder_rules.specs.Verdict.{rule}
-use Rattle.ld_text.specs.declared.fault.TextError.{TextError}
-use Rattle.ld_text.specs.declared.fault.TextError.TheVariants as error
-use Rattle.ld_text.specs.Text.{IsReadAs, text_fault, judged}
-use Rattle.ld_text.proofs.VerdictLemmas.{judged_again}
+use Rattle.ladder_trace.specs.Trace as trace
+use Rattle.ladder_trace.specs.declared.trace.Trace.{Trace}
+use Rattle.int_code.specs.declared.op.IntProgram.{IntProgram}
+use Rattle.interp_code.specs.Machine.{IsRunnable}
+use Rattle.interp_code.specs.Program.{IsSound}
+use Rattle.interp_code.specs.Refused as interp
+use Rattle.interp_code.specs.declared.program.InterpProgram.{InterpProgram}
+use Rattle.ld_text.specs.Faults.{most_text}
+use Rattle.trace_run.specs.Run.{IsProgramOf}
+use Rattle.ldmicro_top.specs.declared.status.InputFault.TheVariants as input
+use Rattle.ldmicro_top.specs.declared.status.Status.{Status}
 use Rattle.ldmicro_top.specs.declared.status.Status.TheVariants as status
-use Rattle.ldmicro_top.specs.Command.{Compile}
-use Rattle.ldmicro_top.specs.Expected.{IsRefusedFor, IsDeclined, SourceAnswers, Expected}
-use Rattle.ldmicro_top.specs.Placed.{IsUnplaced}
-use Rattle.ldmicro_top.specs.Ran.{IsEmitted, IsCompiledText, IsCompiled}
-use Rattle.ldmicro_top.specs.Verdict.{misfit}
-use Rattle.ldmicro_top.specs.declared.compile.Compiled.{Compiled}
+use Rattle.ldmicro_top.specs.Expected.{IsRefusedFor, IsAccepted, IsCode, IsCodeRefusedAt, HeldAnswers, ProjectAnswers, CodeAnswers, TraceAnswers, answer_of, is_fault}
+use Rattle.ldmicro_top.specs.Placed.{IsPlaced}
+use Rattle.ldmicro_top.specs.Replayed.{SameNames}
+use Rattle.ldmicro_top.specs.Sources.{HoldsProject, HoldsTrace, HoldsCode}
+use Rattle.ldmicro_top.specs.Steps.{OnlyReads, Declined}
+use Rattle.ldmicro_top.proofs.CutLemmas.{Found, accepted_whole, refused_whole, verdict_whole, code_whole, code_refused_whole}
+use Rattle.ldmicro_top.proofs.RoomLemmas.{few}
 
-compiled_of_cut : (text code printed : List ℕ) → IsCompiledText (judged text) code printed → IsCompiledText text code printed
-compiled_of_cut text code printed h = record {
-  project = h.project;
-  stands = subst (λ (j : List ℕ). IsReadAs j h.project) (judged_again text) h.stands;
-  legal = h.legal;
-  emitted = h.emitted;
+-- two steps that only read are one
+pub both_read : (told : Bool) (a b c : Counts) (h k l : Held) → OnlyReads told a b h k → OnlyReads told b c k l → OnlyReads told a c h l
+both_read told a b c h k l first second = record {
+  reads = omega arith;
+  absences = omega arith;
+  writes = second.writes ∙ first.writes;
+  same = λ y name. second.same y name ∙ first.same y name;
 }
 
--- what a read of the source found
-abbrev pub Found : Held → List ℕ → List ℕ → Type 0
-Found held source part = (text : List ℕ) × (held source ≡ Some text) × (part ≡ judged text)
+-- why a step ends the run
+abbrev Why : Bool → (Status → Type 0) → Counts → Counts → Status → Type 0
+Why told Answers old new s = (s ≡ status.NoMemory)
+    ⊎ (((s ≡ status.ReadFault) × (Rose old.reads new.reads ⊎ (Rose old.absences new.absences × (told ≡ true → Answers status.ReadFault))))
+    ⊎ ((is_fault s ≡ false) × (s ≢ status.Ok) × (told ≡ true → Answers s)))
 
-pub compiled_source : (held : Held) (source part code printed : List ℕ) → Found held source part → IsCompiledText part code printed → IsCompiled source held code printed
-compiled_source held source part code printed f h = record {
+rose_behind : (a b c : ℕ) → a ≤ b → Rose b c → Rose a c
+rose_behind a b c later rose = omega arith
+
+why_behind : (told : Bool) (A B : Status → Type 0) (a b c : Counts) (h k : Held) (s : Status) → OnlyReads told a b h k → (told ≡ true → (t : Status) → A t → B t) → Why told A b c s → Why told B a c s
+why_behind told A B a b c h k s reads more (inl w) = inl w
+why_behind told A B a b c h k s reads more (inr (inl w)) = inr (inl (w.0, cause w.1))
+  where
+    cause : (Rose b.reads c.reads ⊎ (Rose b.absences c.absences × (told ≡ true → A status.ReadFault))) → Rose a.reads c.reads ⊎ (Rose a.absences c.absences × (told ≡ true → B status.ReadFault))
+    cause (inl rose) = inl (rose_behind a.reads b.reads c.reads reads.reads rose)
+    cause (inr absent) = inr (rose_behind a.absences b.absences c.absences reads.absences absent.0, λ y. more y status.ReadFault (absent.1 y))
+why_behind told A B a b c h k s reads more (inr (inr w)) = inr (inr (w.0, w.1, λ y. more y s (w.2 y)))
+
+-- a step ends the run behind others that only read
+pub declined_behind : (told : Bool) (A B : Status → Type 0) (a b c : Counts) (h k : Held) (s : Status) → OnlyReads told a b h k → (told ≡ true → (t : Status) → A t → B t) → Declined told A b c s → Declined told B a c s
+declined_behind told A B a b c h k s reads more d = record { why = why_behind told A B a b c h k s reads more d.why }
+
+-- the first step ends the run
+pub declined_more : (told : Bool) (A B : Status → Type 0) (a b : Counts) (h : Held) (s : Status) → (told ≡ true → (t : Status) → A t → B t) → Declined told A a b s → Declined told B a b s
+declined_more told A B a b h s more d =
+    declined_behind told A B a a b h h s (record { reads = le_refl _; absences = le_refl _; writes = refl; same = λ y name. refl }) more d
+
+-- What a name holds.
+
+-- a name that was held before holds the same
+pub held_before : (A : List ℕ → Status → Type 0) (old new : Held) (name : List ℕ) (s : Status) → SameHeld old new → HeldAnswers A (new name) s → HeldAnswers A (old name) s
+held_before A old new name s same h = subst (λ (o : Option (List ℕ)). HeldAnswers A o s) (same name) h
+
+held_more : (A B : List ℕ → Status → Type 0) (o : Option (List ℕ)) (s : Status) → ((text : List ℕ) → A text s → B text s) → HeldAnswers A o s → HeldAnswers B o s
+held_more A B None s more h = h
+held_more A B (Some text) s more h = more text h
+
+held_text : (A : List ℕ → Status → Type 0) (held : Held) (name text : List ℕ) (s : Status) → held name ≡ Some text → A text s → HeldAnswers A (held name) s
+held_text A held name text s is h = subst (λ (o : Option (List ℕ)). HeldAnswers A o s) (sym is) h
+
+-- Projects.
+
+abbrev pub NoGo : Project → Status → Type 0
+NoGo p s = ⊥
+
+pub holds_project : (held : Held) (name part : List ℕ) (p : Project) → Found most_text held name part → IsAccepted part p → HoldsProject held name p
+holds_project held name part p f h = record {
   text = f.0;
   read = f.1;
-  compiled = compiled_of_cut f.0 code printed (subst (λ (x : List ℕ). IsCompiledText x code printed) f.2 h);
+  accepted = accepted_whole f.0 p (subst (λ (x : List ℕ). IsAccepted x p) f.2 h);
 }
 
-refused_of_cut : (text : List ℕ) (fault : ProjectFault) → IsRefusedFor (judged text) fault → IsRefusedFor text fault
-refused_of_cut text fault (inl h) = inl (ap text_fault (sym (judged_again text)) ∙ h)
-refused_of_cut text fault (inr h) = inr (h.0, subst (λ (j : List ℕ). IsReadAs j h.0) (judged_again text) h.1, h.2)
+pub refused_project : (go_on : Project → Status → Type 0) (held : Held) (name part : List ℕ) (fault : ProjectFault) → Found most_text held name part → IsRefusedFor part fault → HeldAnswers (ProjectAnswers go_on) (held name) (status.Refused fault)
+refused_project go_on held name part fault f h =
+    held_text (ProjectAnswers go_on) held name f.0 (status.Refused fault) f.1 (inr (fault, refused_whole f.0 fault (subst (λ (x : List ℕ). IsRefusedFor x fault) f.2 h), refl))
 
-pub refused_source : (held : Held) (source dest part : List ℕ) (fault : ProjectFault) → Found held source part → IsRefusedFor part fault → Expected (Compile source dest) held (status.Refused fault)
-refused_source held source dest part fault f h =
-    let answer : IsRefusedFor f.0 fault = refused_of_cut f.0 fault (subst (λ (x : List ℕ). IsRefusedFor x fault) f.2 h) in
-    subst (λ (o : Option (List ℕ)). SourceAnswers o (status.Refused fault)) (sym f.1) answer
+refused_more : (go_on : Project → Status → Type 0) (s : Status) (text : List ℕ) → ProjectAnswers NoGo text s → ProjectAnswers go_on text s
+refused_more go_on s text (inl h) = absurd h.2
+refused_more go_on s text (inr h) = inr h
 
--- a project that is read, keeps the rules and fits is compiled
-pub compiled_of : (text : List ℕ) (p : Project) (r : Result Compiled TextError) → IsReadAs (judged text) p → rule p ≡ None → IfOk r (λ c. misfit p.target (names_of p.rungs) ≡ None) → IfOk r (λ c. IsEmitted p c.code (string_bytes c.report)) → IfOk r (λ c. IsCompiledText text c.code (string_bytes c.report))
-compiled_of text p (Ok c) read keeps fits emitted = record { project = p; stands = read; legal = ap (λ o. option_or o (misfit p.target (names_of p.rungs))) keeps ∙ fits; emitted = emitted }
-compiled_of text p (Err e) read keeps fits emitted = tt
+-- what refuses a project refuses all that is asked of it
+pub project_more : (go_on : Project → Status → Type 0) (o : Option (List ℕ)) (s : Status) → HeldAnswers (ProjectAnswers NoGo) o s → HeldAnswers (ProjectAnswers go_on) o s
+project_more go_on o s h = held_more (ProjectAnswers NoGo) (ProjectAnswers go_on) o s (refused_more go_on s) h
 
--- one that does not fit is refused
-pub declined_of : (text : List ℕ) (p : Project) (r : Result Compiled TextError) → IsReadAs (judged text) p → rule p ≡ None → IfErr r (λ e. IsUnplaced p e) → IfErr r (IsDeclined text)
-declined_of text p (Ok c) read keeps h = tt
-declined_of text p (Err (error.Memory e)) read keeps h = tt
-declined_of text p (Err (error.Refused f)) read keeps h = inr (p, read, ap (λ o. option_or o (misfit p.target (names_of p.rungs))) keeps ∙ h)
+pub project_on : (go_on : Project → Status → Type 0) (held : Held) (name : List ℕ) (p : Project) (s : Status) → HoldsProject held name p → go_on p s → HeldAnswers (ProjectAnswers go_on) (held name) s
+project_on go_on held name p s h on = held_text (ProjectAnswers go_on) held name h.text s h.read (inl (p, h.accepted, on))
+
+-- Traces.
+
+pub holds_trace : (held : Held) (name part : List ℕ) (n : Names) (t : Trace) → Found trace.most_bytes held name part → trace.verdict n part ≡ Ok t → HoldsTrace held name n t
+holds_trace held name part n t f h = record { text = f.0; read = f.1; given = sym (verdict_whole n f.0) ∙ ap (trace.verdict n) (sym f.2) ∙ h }
+
+pub refused_trace : (held : Held) (name part : List ℕ) (n : Names) (line : ℕ) → Found trace.most_bytes held name part → trace.verdict n part ≡ Err line → HeldAnswers (TraceAnswers n) (held name) (status.BadInput (input.Trace line))
+refused_trace held name part n line f h =
+    let same : trace.verdict n f.0 ≡ Err line = sym (verdict_whole n f.0) ∙ ap (trace.verdict n) (sym f.2) ∙ h in
+    held_text (TraceAnswers n) held name f.0 (status.BadInput (input.Trace line)) f.1 (ap answer_of (sym same))
+
+-- a trace that a name held before is the same
+pub trace_before : (old new : Held) (name : List ℕ) (n m : Names) (t : Trace) → SameHeld old new → n ≡ m → HoldsTrace new name n t → HoldsTrace old name m t
+trace_before old new name n m t same names h = record { text = h.text; read = sym (same name) ∙ h.read; given = subst (λ (x : Names). trace.verdict x h.text ≡ Ok t) names h.given }
+
+-- Code.
+
+pub holds_code : (held : Held) (name part : List ℕ) (n : Names) (said : InterpProgram) → Found interp.most_bytes held name part → IsCode part said → SameNames n said.names → HoldsCode held name n said.program
+holds_code held name part n said f h same = record {
+  text = f.0;
+  read = f.1;
+  said = said;
+  code = code_whole f.0 said (subst (λ (x : List ℕ). IsCode x said) f.2 h);
+  names = same;
+  program = refl;
+}
+
+-- a text with other names is another project's
+pub other_project : (held : Held) (name part : List ℕ) (n : Names) (said : InterpProgram) → Found interp.most_bytes held name part → IsCode part said → (SameNames n said.names → ⊥) → HeldAnswers (CodeAnswers n (λ s. ⊥)) (held name) (status.BadInput (input.OtherProject said.code_line))
+other_project held name part n said f h differ =
+    held_text (CodeAnswers n (λ s. ⊥)) held name f.0 (status.BadInput (input.OtherProject said.code_line)) f.1
+    (inl (said, code_whole f.0 said (subst (λ (x : List ℕ). IsCode x said) f.2 h), inr (differ, refl)))
+
+pub refused_code : (held : Held) (name part : List ℕ) (n : Names) (line : ℕ) → Found interp.most_bytes held name part → IsCodeRefusedAt part line → HeldAnswers (CodeAnswers n (λ s. ⊥)) (held name) (status.BadInput (input.Interp line))
+refused_code held name part n line f h =
+    held_text (CodeAnswers n (λ s. ⊥)) held name f.0 (status.BadInput (input.Interp line)) f.1
+    (inr (line, code_refused_whole f.0 line (subst (λ (x : List ℕ). IsCodeRefusedAt x line) f.2 h), refl))
+
+differs_more : (n : Names) (go_on : Status → Type 0) (s : Status) (text : List ℕ) → CodeAnswers n (λ t. ⊥) text s → CodeAnswers n go_on text s
+differs_more n go_on s text (inl h) = inl (h.0, h.1, names h.2)
+  where
+    names : ((SameNames n h.0.names × ⊥) ⊎ ((SameNames n h.0.names → ⊥) × (s ≡ status.BadInput (input.OtherProject h.0.code_line)))) → (SameNames n h.0.names × go_on s) ⊎ ((SameNames n h.0.names → ⊥) × (s ≡ status.BadInput (input.OtherProject h.0.code_line)))
+    names (inl same) = absurd same.1
+    names (inr differ) = inr differ
+differs_more n go_on s text (inr h) = inr h
+
+-- what refuses a text refuses all that is asked of it
+pub code_more : (n : Names) (go_on : Status → Type 0) (o : Option (List ℕ)) (s : Status) → HeldAnswers (CodeAnswers n (λ t. ⊥)) o s → HeldAnswers (CodeAnswers n go_on) o s
+code_more n go_on o s h = held_more (CodeAnswers n (λ t. ⊥)) (CodeAnswers n go_on) o s (differs_more n go_on s) h
+
+pub code_on : (n : Names) (go_on : Status → Type 0) (held : Held) (name : List ℕ) (program : IntProgram) (s : Status) → HoldsCode held name n program → go_on s → HeldAnswers (CodeAnswers n go_on) (held name) s
+code_on n go_on held name program s h on = held_text (CodeAnswers n go_on) held name h.text s h.read (inl (h.said, h.code, inl (h.names, on)))
+
+-- code that a name held before is the same
+pub code_before : (old new : Held) (name : List ℕ) (n m : Names) (program : IntProgram) → SameHeld old new → n ≡ m → HoldsCode new name n program → HoldsCode old name m program
+code_before old new name n m program same names h = record {
+  text = h.text;
+  read = sym (same name) ∙ h.read;
+  said = h.said;
+  code = h.code;
+  names = subst (λ (x : Names). SameNames x h.said.names) names h.names;
+  program = h.program;
+}
+
+-- Programs that run over a trace.
+
+pub placed_runs : (p : Project) (n : Names) (program : IntProgram) → IsPlaced p n program → IsProgramOf n program
+placed_runs p n program h =
+    let room = few p.target n h.fits in
+    let kept = h.formed.kept in
+    record {
+      runs = record { well_formed = h.formed; persistent = omega (arith, h.sizes.persistent, room.persistent); length = omega (arith, h.room.ops) };
+      places = record { outputs = sym h.sizes.outputs; variables = sym h.sizes.variables; relays = omega (arith, h.sizes.kept, kept) };
+      inputs = h.sizes.inputs;
+      analogs = h.sizes.analogs;
+    }
+
+pub said_runs : (n : Names) (said : InterpProgram) → IsRunnable said → IsSound said.names said.program → SameNames n said.names → IsProgramOf n said.program
+said_runs n said h sound same = record {
+  runs = h.runs;
+  places = record {
+    outputs = ap length (sym same.outputs) ∙ h.places.outputs;
+    variables = ap length (sym same.variables) ∙ h.places.variables;
+    relays = subst (λ (names : List (List ℕ)). length names ≤ said.program.bits) same.relays h.places.relays;
+  };
+  inputs = sound.input_count ∙ ap length same.inputs;
+  analogs = sound.analog_count ∙ ap length same.analogs;
+}

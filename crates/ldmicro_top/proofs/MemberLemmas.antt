@@ -1,10 +1,8 @@
 -- Which names stand in a project's lists.
-use Rattle.std.proofs.Common.{◌≡◌, ℕ, Bool, true, false, ◌||◌, ◌&&◌, cond, List, [], ◌∷◌, ◌++◌, refl, sym, ap, ◌∙◌, subst}
-use Rattle.std.proofs.lemmas.List.Folds.{list_any-append}
+use Rattle.std.proofs.Common.{◌≡◌, ℕ, Bool, true, false, ◌||◌, ◌&&◌, cond, List, [], ◌∷◌, ◌++◌, refl, sym, subst}
 use Rattle.std.proofs.lemmas.Slice.Eq.{bytes_eq-Decides}
 use Rattle.std.specs.List.{list_any, list_all}
 use Rattle.std.specs.Str.{bytes_eq}
-use Rattle.ladder_tree.specs.Leaves.{all_leaves}
 use Rattle.ladder_tree.specs.Names.{analog_names, persistent_names, variable_names, all_named, firsts_from, firsts}
 use Rattle.ladder_tree.specs.declared.element.Leaf as leaf
 use Rattle.ladder_tree.specs.declared.element.LeafKind.{LeafKind}

@@ -1,15 +1,16 @@
 -- From the steps to a whole run.
 use Rattle.std.proofs.Common.{◌≡◌, ◌≢◌, ◌⊎◌, inl, inr, ℕ, ◌≤◌, Bool, true, false, List, [], ◌∷◌, ◌++◌, refl, sym, ap, ◌∙◌, subst, ⊎_elim, append-nil, cond, Some}
 use Rattle.std.specs.Str.{bytes_eq}
-use Rattle.ld_base.specs.Counts.{Rose}
+use Rattle.ld_base.specs.Counts.{Counts, Rose}
 use Rattle.ld_base.specs.Bytes.{Held, SameHeld, HoldsThen}
 use Rattle.ldmicro_top.specs.declared.status.Status.{Status}
-use Rattle.ldmicro_top.specs.declared.status.Status.TheVariants.{Ok, Usage, Refused, ReadFault, WriteFault, NoMemory}
+use Rattle.ldmicro_top.specs.declared.status.Status.TheVariants.{Ok, Usage, Refused, ReadFault, WriteFault, NoMemory, BadInput}
 use Rattle.ldmicro_top.specs.Command.{Command, Compile}
-use Rattle.ldmicro_top.specs.Expected.{Expected, SourceAnswers, is_fault, is_cut}
+use Rattle.ldmicro_top.specs.Expected.{Expected, is_fault, is_cut}
 use Rattle.ldmicro_top.specs.StatusLine.{line_of}
-use Rattle.ldmicro_top.specs.Ran.{World, Ran, IsCompiled, CompilesTo, DestHolds, Prints, IsFrontOf, IsCommand, IsComplete}
+use Rattle.ldmicro_top.specs.Ran.{World, Ran, IsCompiled, Makes, DestHolds, Prints, IsFrontOf, ReadsFiles, WritesFile, IsComplete}
 use Rattle.ldmicro_top.specs.Steps.{Told, Declined, Unwritten}
+use Rattle.ldmicro_top.proofs.GoodLemmas.{compiled_good}
 
 -- no count fell
 pub record Later (old new : World) : Type 0 where
@@ -19,10 +20,13 @@ pub record Later (old new : World) : Type 0 where
   pub faults : old.faults ≤ new.faults
 
 abbrev ReadCause : Bool → Command → World → World → Type 0
-ReadCause told command old new = IsCommand command × (Rose old.counts.reads new.counts.reads ⊎ (Rose old.counts.absences new.counts.absences × (told ≡ true → Expected command old.held ReadFault)))
+ReadCause told command old new = ReadsFiles command × (Rose old.counts.reads new.counts.reads ⊎ (Rose old.counts.absences new.counts.absences × (told ≡ true → Expected command old.held ReadFault)))
+
+abbrev WriteCause : Bool → Command → World → World → Type 0
+WriteCause told command old new = Rose old.faults new.faults ⊎ (Rose old.counts.writes new.counts.writes × WritesFile command × (told ≡ true → Expected command old.held Ok))
 
 abbrev Partly : Command → World → World → Type 0
-Partly command old new = SameHeld old.held new.held ⊎ (Expected command old.held Ok × (code : List ℕ) × (printed : List ℕ) × CompilesTo command old.held code printed × (front : List ℕ) × IsFrontOf front code × DestHolds command old.held new.held front)
+Partly command old new = SameHeld old.held new.held ⊎ (Expected command old.held Ok × (code : List ℕ) × (printed : List ℕ) × Makes command old.held code printed × (front : List ℕ) × IsFrontOf front code × DestHolds command old.held new.held front)
 
 abbrev Fronts : Command → World → World → List ℕ → Type 0
 Fronts command old new front = (front ≡ []) ⊎ (((text : List ℕ) × Prints command old.held text × IsFrontOf front text) ⊎ (Rose old.counts.reads new.counts.reads × IsFrontOf front (line_of ReadFault)))
@@ -52,7 +56,7 @@ module _ (told shown : Bool) (command : Command) (old new : World) (later : Late
   }
 
   -- a write fault, or want of memory
-  cut_ran : (status : Status) → is_cut status ≡ true → (status ≡ WriteFault → Rose old.faults new.faults ⊎ (Rose old.counts.writes new.counts.writes × IsCommand command × (told ≡ true → Expected command old.held Ok))) → CutText told shown command old new → (told ≡ true → Partly command old new) → Ran told shown command old new status
+  cut_ran : (status : Status) → is_cut status ≡ true → (status ≡ WriteFault → WriteCause told command old new) → CutText told shown command old new → (told ≡ true → Partly command old new) → Ran told shown command old new status
   cut_ran status cut cause text files = record {
     answer = λ t e. absurd (fault status cut e);
     read_fault = λ e. absurd (apart (sym cut ∙ ap is_cut e));
@@ -75,6 +79,7 @@ module _ (told shown : Bool) (command : Command) (old new : World) (later : Late
       fault ReadFault c f = cc
       fault WriteFault c f = cc
       fault NoMemory c f = cc
+      fault (BadInput n) c f = cc
 
   -- where the wanted status is told, or a front of its text
   told_ran : (line : List ℕ) (wanted status : Status) → Told shown old.faults new.faults old.written new.written line wanted status → ((shown ≡ true → new.written ≡ old.written ++ line) → Ran told shown command old new wanted) → (told ≡ true → (front : List ℕ) → IsFrontOf front line → Fronts command old new front) → (told ≡ true → Partly command old new) → Ran told shown command old new status
@@ -98,50 +103,37 @@ module _ (told shown : Bool) (command : Command) (old new : World) (later : Late
       none : [] ≡ x ∷ (xs ++ h.0) → ⊥
       none e = cc
 
-  -- words that ask for nothing
-  pub useless : (status : Status) → Expected command old.held Usage → (told ≡ true → SameHeld old.held new.held) → Told shown old.faults new.faults old.written new.written (line_of Usage) Usage status → Ran told shown command old new status
-  useless status usage same t = told_ran (line_of Usage) Usage status t
-      (λ text. whole_ran Usage refl (λ e. cc) (λ _ _. usage) (λ e. cc) text same)
-      (λ y front h. inr (inl (line_of Usage, inl (Usage, usage, (λ e. cc), refl), h)))
-      (λ y. inl (same y))
-
-module _ (told shown : Bool) (source dest : List ℕ) (old new : World) (later : Later old new) where
-  abbrev asked : Command
-  asked = Compile source dest
-
   abbrev Gives : Status → Type 0
-  Gives status = Ran told shown asked old new status
+  Gives status = Ran told shown command old new status
 
   abbrev TellsLine : Status → Status → Type 0
   TellsLine wanted status = Told shown old.faults new.faults old.written new.written (line_of wanted) wanted status
 
-  cut_line : (wanted status : Status) → line_of wanted ≡ [] → is_cut wanted ≡ true → (wanted ≡ WriteFault → Rose old.faults new.faults ⊎ (Rose old.counts.writes new.counts.writes × IsCommand asked × (told ≡ true → Expected asked old.held Ok))) → (told ≡ true → Partly asked old new) → TellsLine wanted status → Gives status
-  cut_line wanted status none cut cause files t = told_ran told shown asked old new later (line_of wanted) wanted status t
-      (λ text. cut_ran told shown asked old new later wanted cut cause (λ _ s. ([], text s ∙ ap (λ l. old.written ++ l) none, inl refl)) files)
-      (λ _ front h. none_front told shown asked old new later front (rw none at h))
+  -- an answer of which nothing is written
+  cut_line : (wanted status : Status) → line_of wanted ≡ [] → is_cut wanted ≡ true → (wanted ≡ WriteFault → WriteCause told command old new) → (told ≡ true → Partly command old new) → TellsLine wanted status → Gives status
+  cut_line wanted status none cut cause files t = told_ran (line_of wanted) wanted status t
+      (λ text. cut_ran wanted cut cause (λ _ s. ([], text s ∙ ap (λ l. old.written ++ l) none, inl refl)) files)
+      (λ _ front h. none_front front (rw none at h))
       files
 
-  no_memory : (status : Status) → (told ≡ true → Partly asked old new) → TellsLine NoMemory status → Gives status
-  no_memory status files t = cut_line NoMemory status refl refl (λ e. absurd (other e)) files t
-    where
-      other : NoMemory ≡ WriteFault → ⊥
-      other e = cc
+  no_memory : (status : Status) → (told ≡ true → Partly command old new) → TellsLine NoMemory status → Gives status
+  no_memory status files t = cut_line NoMemory status refl refl (λ e. cc) files t
 
-  write_failed : (status : Status) → Rose old.counts.writes new.counts.writes → (told ≡ true → Expected asked old.held Ok) → (told ≡ true → Partly asked old new) → TellsLine WriteFault status → Gives status
-  write_failed status rose good files t = cut_line WriteFault status refl refl (λ _. inr (rose, tt, good)) files t
+  write_failed : (status : Status) → WritesFile command → Rose old.counts.writes new.counts.writes → (told ≡ true → Expected command old.held Ok) → (told ≡ true → Partly command old new) → TellsLine WriteFault status → Gives status
+  write_failed status writes rose good files t = cut_line WriteFault status refl refl (λ _. inr (rose, writes, good)) files t
 
-  prints_line : (wanted : Status) → wanted ≢ Ok → Expected asked old.held wanted → Prints asked old.held (line_of wanted)
+  prints_line : (wanted : Status) → wanted ≢ Ok → Expected command old.held wanted → Prints command old.held (line_of wanted)
   prints_line wanted undone good = inl (wanted, good, undone, refl)
 
-  absent : (status : Status) → ReadCause told asked old new → (told ≡ true → SameHeld old.held new.held) → TellsLine ReadFault status → Gives status
-  absent status cause same t = told_ran told shown asked old new later (line_of ReadFault) ReadFault status t
-      (λ text. whole_ran told shown asked old new later ReadFault refl (λ e. cc) (λ _ e. absurd (apart e)) (λ _. cause) text same)
+  absent : (status : Status) → ReadCause told command old new → (told ≡ true → SameHeld old.held new.held) → TellsLine ReadFault status → Gives status
+  absent status cause same t = told_ran (line_of ReadFault) ReadFault status t
+      (λ text. whole_ran ReadFault refl (λ e. cc) (λ _ e. absurd (apart e)) (λ _. cause) text same)
       (λ y front h. inr (⊎_elim (λ rose. inr (rose, h)) (λ a. inl (line_of ReadFault, prints_line ReadFault (λ e. cc) (a.1 y), h)) cause.1))
       (λ y. inl (same y))
 
-  refused : (wanted status : Status) → is_fault wanted ≡ false → wanted ≢ Ok → (told ≡ true → Expected asked old.held wanted) → (told ≡ true → SameHeld old.held new.held) → TellsLine wanted status → Gives status
-  refused wanted status fine undone answer same t = told_ran told shown asked old new later (line_of wanted) wanted status t
-      (λ text. whole_ran told shown asked old new later wanted (uncut wanted fine) undone (λ y _. answer y) (λ e. absurd (apart (sym (ap is_fault e) ∙ fine))) text same)
+  refused : (wanted status : Status) → is_fault wanted ≡ false → wanted ≢ Ok → (told ≡ true → Expected command old.held wanted) → (told ≡ true → SameHeld old.held new.held) → TellsLine wanted status → Gives status
+  refused wanted status fine undone answer same t = told_ran (line_of wanted) wanted status t
+      (λ text. whole_ran wanted (uncut wanted fine) undone (λ y _. answer y) (λ e. absurd (apart (sym (ap is_fault e) ∙ fine))) text same)
       (λ y front h. inr (inl (line_of wanted, prints_line wanted undone (answer y), h)))
       (λ y. inl (same y))
     where
@@ -152,44 +144,30 @@ module _ (told shown : Bool) (source dest : List ℕ) (old new : World) (later :
       uncut ReadFault f = cc
       uncut WriteFault f = cc
       uncut NoMemory f = cc
+      uncut (BadInput n) f = refl
 
-  -- the source is not compiled
-  pub declined : (wanted status : Status) → Declined told source dest old.counts new.counts old.held wanted → (told ≡ true → SameHeld old.held new.held) → TellsLine wanted status → Gives status
-  declined wanted status d same t = ⊎_elim
+  -- words that ask for nothing
+  pub useless : (status : Status) → Expected command old.held Usage → (told ≡ true → SameHeld old.held new.held) → TellsLine Usage status → Gives status
+  useless status usage same t = refused Usage status refl (λ e. cc) (λ _. usage) same t
+
+  -- what the names hold is not what is asked of
+  pub declined : (wanted status : Status) → ReadsFiles command → Declined told (Expected command old.held) old.counts new.counts wanted → (told ≡ true → SameHeld old.held new.held) → TellsLine wanted status → Gives status
+  declined wanted status reads d same t = ⊎_elim
       (λ e. no_memory status (λ y. inl (same y)) (subst (λ (w : Status). TellsLine w status) e t))
       (⊎_elim
-      (λ r. absent status (tt, r.1) same (subst (λ (w : Status). TellsLine w status) r.0 t))
+      (λ r. absent status (reads, r.1) same (subst (λ (w : Status). TellsLine w status) r.0 t))
       (λ f. refused wanted status f.0 f.1 f.2 same t))
       d.why
 
-  good_of : (code printed : List ℕ) → IsCompiled source old.held code printed → Expected asked old.held Ok
-  good_of code printed a = subst (λ (o : _). SourceAnswers o Ok) (sym a.read) (a.compiled.project, a.compiled.stands, a.compiled.legal)
-
-  from_middle : (middle : Held) (bytes : List ℕ) → SameHeld old.held middle → HoldsThen middle new.held dest bytes → HoldsThen old.held new.held dest bytes
-  from_middle middle bytes same h n = h n ∙ ap (cond (bytes_eq dest n) (Some bytes)) (same n)
-
-  -- writing went on from what was compiled
-  pub unwritten : (code printed : List ℕ) (wanted status : Status) (middle : Held) → (told ≡ true → SameHeld old.held middle) → (told ≡ true → IsCompiled source old.held code printed) → Unwritten told dest code old.counts.writes new.counts.writes middle new.held wanted → TellsLine wanted status → Gives status
-  unwritten code printed wanted status middle same a u t = ⊎_elim
-      (λ w. write_failed status w.1 (λ y. good_of code printed (a y)) files (subst (λ (w : Status). TellsLine w status) w.0 t))
-      (λ e. no_memory status files (subst (λ (w : Status). TellsLine w status) e t))
-      u.why
-    where
-      files : told ≡ true → Partly asked old new
-      files y = ⊎_elim
-          (λ s. inl (λ n. s n ∙ same y n))
-          (λ f. inr (good_of code printed (a y), code, printed, a y, f.0, f.1, from_middle middle f.0 (same y) f.2))
-          (u.part y)
-
-  -- all was written, and then the report, or a front of it
-  pub reported : (code printed : List ℕ) (status : Status) (middle : Held) → (told ≡ true → SameHeld old.held middle) → (told ≡ true → IsCompiled source old.held code printed) → (told ≡ true → HoldsThen middle new.held dest code) → Told shown old.faults new.faults old.written new.written printed Ok status → Gives status
-  reported code printed status middle same a h t = told_ran told shown asked old new later printed Ok status t
+  -- all was made, and then printed whole or a front of it
+  pub reported : (code printed : List ℕ) (status : Status) → (told ≡ true → Expected command old.held Ok) → (told ≡ true → Makes command old.held code printed) → (told ≡ true → DestHolds command old.held new.held code) → Told shown old.faults new.faults old.written new.written printed Ok status → Gives status
+  reported code printed status good makes dest t = told_ran printed Ok status t
       (λ text. record {
-        answer = λ y _. good_of code printed (a y);
+        answer = λ y _. good y;
         read_fault = λ e. cc;
         write_fault = λ e. cc;
         text = λ s _ e. absurd (e refl);
-        done = λ y _. (code, printed, a y, dest_holds y, text);
+        done = λ y _. (code, printed, makes y, dest y, text);
         same = λ y _ e. absurd (e refl);
         cut_text = λ y s e. absurd (apart (sym e));
         cut_files = λ y e. absurd (apart (sym e));
@@ -198,11 +176,38 @@ module _ (told shown : Bool) (source dest : List ℕ) (old new : World) (later :
         writes = later.writes;
         faults = later.faults;
       })
-      (λ y front f. inr (inl (printed, inr (good_of code printed (a y), code, a y), f)))
-      (λ y. inr (good_of code printed (a y), code, printed, a y, code, ([], sym (append-nil code)), dest_holds y))
-    where
-      dest_holds : told ≡ true → HoldsThen old.held new.held dest code
-      dest_holds y = from_middle middle code (same y) (h y)
+      (λ y front f. inr (inl (printed, inr (good y, code, makes y), f)))
+      (λ y. inr (good y, code, printed, makes y, code, ([], sym (append-nil code)), dest y))
+
+-- the bytes that a name holds after steps that changed nothing
+pub from_middle : (dest bytes : List ℕ) (old middle new : Held) → SameHeld old middle → HoldsThen middle new dest bytes → HoldsThen old new dest bytes
+from_middle dest bytes old middle new same h n = h n ∙ ap (cond (bytes_eq dest n) (Some bytes)) (same n)
+
+-- writing went on from what was compiled, and failed
+pub unwritten : (told shown : Bool) (source dest : List ℕ) (old new : World) → Later old new → (code printed : List ℕ) (wanted status : Status) (middle : Held) → (told ≡ true → SameHeld old.held middle) → (told ≡ true → IsCompiled source old.held code printed)
+    → Unwritten told dest code old.counts.writes new.counts.writes middle new.held wanted → Told shown old.faults new.faults old.written new.written (line_of wanted) wanted status → Ran told shown (Compile source dest) old new status
+unwritten told shown source dest old new later code printed wanted status middle same made u t = ⊎_elim
+    (λ w. write_failed told shown (Compile source dest) old new later status tt w.1 good files (subst (λ (w : Status). TellsLine told shown (Compile source dest) old new later w status) w.0 t))
+    (λ e. no_memory told shown (Compile source dest) old new later status files (subst (λ (w : Status). TellsLine told shown (Compile source dest) old new later w status) e t))
+    u.why
+  where
+    good : told ≡ true → Expected (Compile source dest) old.held Ok
+    good y = compiled_good source dest old.held code printed (made y)
+
+    files : told ≡ true → Partly (Compile source dest) old new
+    files y = ⊎_elim
+        (λ s. inl (λ n. s n ∙ same y n))
+        (λ f. inr (good y, code, printed, made y, f.0, f.1, from_middle dest f.0 old.held middle new.held (same y) f.2))
+        (u.part y)
+
+-- where a step declines for a cause, so does the command that has it among its own
+pub declined_for : (told : Bool) (A B : Status → Type 0) (old new : Counts) (status : Status) → ((a : Status) → A a → B a) → Declined told A old new status → Declined told B old new status
+declined_for told A B old new status more d = record {
+  why = ⊎_elim inl (λ w. inr (⊎_elim
+      (λ r. inl (r.0, ⊎_elim inl (λ a. inr (a.0, λ y. more ReadFault (a.1 y))) r.1))
+      (λ f. inr (f.0, f.1, λ y. more status (f.2 y)))
+      w)) d.why;
+}
 
 -- where nothing failed, the answer is the expected one, or memory was wanting
 pub complete_of : (told shown : Bool) (command : Command) (old new : World) (status : Status) → Ran told shown command old new status → IsComplete told command old new status
@@ -211,4 +216,5 @@ complete_of told shown command old new Usage r t reads writes faults = inl (r.an
 complete_of told shown command old new (Refused n) r t reads writes faults = inl (r.answer t refl)
 complete_of told shown command old new ReadFault r t reads writes faults = ⊎_elim (λ rose. absurd (reads rose)) (λ a. inl (a.1 t)) (r.read_fault refl).1
 complete_of told shown command old new WriteFault r t reads writes faults = ⊎_elim (λ rose. absurd (faults rose)) (λ w. absurd (writes w.0)) (r.write_fault refl)
+complete_of told shown command old new (BadInput n) r t reads writes faults = inl (r.answer t refl)
 complete_of told shown command old new NoMemory r t reads writes faults = inr refl

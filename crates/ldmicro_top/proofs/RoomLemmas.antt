@@ -1,11 +1,10 @@
 -- What fits its target.
-use Rattle.std.proofs.Common.{◌≡◌, ℕ, ◌+◌, ◌*◌, ◌/◌, ◌≤◌, ◌<◌, ◌^◌, Bool, true, false, cond, nat_lt, length, Option, Some, None, refl, sym, ap, ◌∙◌, arith}
+use Rattle.std.proofs.Common.{◌≡◌, ℕ, ◌≤◌, Bool, true, false, cond, nat_lt, length, Some, None, refl, arith}
 use Rattle.std.proofs.lemmas.Bool.Decides.{nat_tests}
 use Rattle.std.specs.Option.{option_map}
 use Rattle.chip_tables.specs.Memory.{ram_size, eeprom_size}
 use Rattle.chip_tables.specs.declared.target.Target.{Target}
 use Rattle.chip_tables.specs.declared.target.Target.TheVariants.{F628, F877, Mega16, Interp, AnsiC}
-use Rattle.ladder_tree.specs.declared.fault.ProjectFault.{ProjectFault}
 use Rattle.ladder_tree.specs.declared.fault.ProjectFault.TheVariants as fault
 use Rattle.ladder_tree.specs.declared.names.Names.{Names}
 use Rattle.ladder_tree.specs.declared.project.Project.{Project}
@@ -13,7 +12,6 @@ use Rattle.int_code.specs.declared.op.IntProgram.{IntProgram}
 use Rattle.ladder_lower.specs.Outcome.{HasSizes, IsSmall}
 use Rattle.mem_plan.specs.Misfit as plan
 use Rattle.mem_plan.specs.Needs as needs
-use Rattle.mem_plan.specs.declared.fault.PlanFault.{PlanFault}
 use Rattle.mem_plan.specs.declared.fault.PlanFault.TheVariants.{RamFull, EepromFull}
 use Rattle.ldmicro_top.specs.Placed.{refusal_of}
 use Rattle.ldmicro_top.specs.Verdict.{ram_need, eeprom_need, misfit}

@@ -7,3 +7,5 @@ pub mod Expected
 pub mod Ran
 pub mod Steps
 pub mod Placed
+pub mod Replayed
+pub mod Sources

@@ -6,7 +6,9 @@ use Rattle.ladder_tree.specs.declared.fault.ProjectFault.{ProjectFault}
 use Rattle.ladder_tree.specs.declared.fault.ProjectFault.TheVariants as fault
 use Rattle.ladder_tree.specs.declared.names.Names.{Names}
 use Rattle.ladder_tree.specs.declared.project.Project.{Project}
+use Rattle.ladder_trace.specs.Simulated.{shows_duty}
 use Rattle.int_code.specs.Caps.{ops_cap}
+use Rattle.int_code.specs.Uses.{has_pwm}
 use Rattle.int_code.specs.WellFormed.{IsWellFormed}
 use Rattle.int_code.specs.declared.op.IntProgram.{IntProgram}
 use Rattle.ladder_lower.specs.Correct.{KeepsHistory}
@@ -37,6 +39,7 @@ pub record IsPlaced (p : Project) (n : Names) (program : IntProgram) : Type 0 wh
   pub small : IsSmall n
   pub room : HasRoom program
   pub numbers : AllHoldNumbers program.ops
+  pub duty : has_pwm program.ops ≡ shows_duty p
   pub fits : misfit p.target n ≡ None
 
 -- memory was wanting, or the project does not fit

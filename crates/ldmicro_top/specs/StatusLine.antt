@@ -6,6 +6,8 @@ use Rattle.ladder_tree.specs.declared.fault.ProjectFault.{ProjectFault}
 use Rattle.ladder_tree.specs.declared.fault.ProjectFault.TheVariants.{NotProject, BadLine, LineTooLong, TooDeep, TooMany, Unclosed, UnknownChip, NumberRange, NotRightmost, WrongKind, TimerTwice, TimerShort, TimerLong, NoAdc, NoPwm, PwmTwoRates, PinUnassigned, PinTwice, NoSuchPin, PinTaken, CycleRange, BaudRange, PwmRange, RamFull, EepromFull, CodeFull, NotBuilt}
 use Rattle.ldmicro_top.specs.declared.status.Status.{Status}
 use Rattle.ldmicro_top.specs.declared.status.Status.TheVariants as status
+use Rattle.ldmicro_top.specs.declared.status.InputFault.{InputFault}
+use Rattle.ldmicro_top.specs.declared.status.InputFault.TheVariants as input
 use Rattle.ldmicro_top.specs.declared.status.Place.{Place}
 use Rattle.ldmicro_top.specs.declared.status.Place.TheVariants as at
 
@@ -16,6 +18,7 @@ code_of (status.Refused fault) = 2
 code_of status.ReadFault = 3
 code_of status.WriteFault = 4
 code_of status.NoMemory = 5
+code_of (status.BadInput fault) = 6
 
 abbrev pub place_of : ProjectFault → Place
 place_of (NotProject line) = at.Line line
@@ -52,7 +55,13 @@ place_text (at.Twice line first) = codes "line " ++ (decimal line ++ (codes " fi
 place_text (at.Pin line pin) = codes "line " ++ (decimal line ++ (codes " pin " ++ decimal pin))
 place_text (at.Need need have) = codes "need " ++ (decimal need ++ (codes " have " ++ decimal have))
 
--- the line that a status prints; after Ok the report is printed, and after two faults nothing is
+-- what is wrong with a file, and where
+abbrev pub input_text : InputFault → List ℕ
+input_text (input.Interp line) = codes "file line " ++ decimal line
+input_text (input.OtherProject line) = codes "file line " ++ (decimal line ++ codes " other project")
+input_text (input.Trace line) = codes "trace line " ++ decimal line
+
+-- the line that a status prints; after Ok the report or the lines of a run are printed, and after two faults nothing is
 abbrev pub line_of : Status → List ℕ
 line_of status.Ok = []
 line_of status.Usage = codes "usage: ldmicro /c source dest | /s source trace | /r source file trace | /g number dest\n"
@@ -60,3 +69,4 @@ line_of (status.Refused fault) = codes "refused " ++ (decimal (number_of fault) 
 line_of status.ReadFault = codes "read fault\n"
 line_of status.WriteFault = []
 line_of status.NoMemory = []
+line_of (status.BadInput fault) = codes "bad input " ++ (input_text fault ++ codes "\n")

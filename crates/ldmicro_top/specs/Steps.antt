@@ -4,10 +4,14 @@ use Rattle.ld_base.specs.Counts.{Counts, Rose}
 use Rattle.ld_base.specs.Bytes.{Held, SameHeld, HoldsThen}
 use Rattle.ld_base.specs.declared.device.FileFault.{FileFault}
 use Rattle.ld_base.specs.declared.device.FileFault.TheVariants as file
+use Rattle.ld_base.specs.declared.device.OpenFault.{OpenFault}
+use Rattle.ld_base.specs.declared.device.OpenFault.TheVariants as opening
 use Rattle.ldmicro_top.specs.declared.status.Status.{Status}
 use Rattle.ldmicro_top.specs.declared.status.Status.TheVariants.{Ok, ReadFault, WriteFault, NoMemory}
-use Rattle.ldmicro_top.specs.Command.{Compile}
-use Rattle.ldmicro_top.specs.Expected.{Expected, is_fault}
+use Rattle.ladder_trace.specs.Trace.{IsTraceOf}
+use Rattle.trace_run.specs.Run.{IsProgramOf, run_lines}
+use Rattle.ldmicro_top.specs.declared.traced.TraceRun.{TraceRun}
+use Rattle.ldmicro_top.specs.Expected.{is_fault}
 use Rattle.ldmicro_top.specs.Ran.{IsFrontOf}
 
 -- the line of the wanted status was written, or a front of it and the status says why
@@ -16,15 +20,36 @@ pub record Told (shown : Bool) (faults faults' : ℕ) (written written' line : L
   pub later : faults ≤ faults'
   pub part : shown ≡ true → (front : List ℕ) × (written' ≡ written ++ front) × IsFrontOf front line
 
--- why a source is not compiled
-pub record Declined (told : Bool) (source dest : List ℕ) (old new : Counts) (held : Held) (status : Status) : Type 0 where
-  pub why : (status ≡ NoMemory) ⊎ (((status ≡ ReadFault) × (Rose old.reads new.reads ⊎ (Rose old.absences new.absences × (told ≡ true → Expected (Compile source dest) held ReadFault))))
-      ⊎ ((is_fault status ≡ false) × (status ≢ Ok) × (told ≡ true → Expected (Compile source dest) held status)))
+-- a step that only reads: no count falls, and the names hold what they held
+pub record OnlyReads (told : Bool) (old new : Counts) (held held' : Held) : Type 0 where
+  pub reads : old.reads ≤ new.reads
+  pub absences : old.absences ≤ new.absences
+  pub writes : new.writes ≡ old.writes
+  pub same : told ≡ true → SameHeld held held'
+
+-- why a step ends the run: memory was wanting, a read failed, a name holds nothing, or what it holds has this answer
+pub record Declined (told : Bool) (Answers : Status → Type 0) (old new : Counts) (status : Status) : Type 0 where
+  pub why : (status ≡ NoMemory) ⊎ (((status ≡ ReadFault) × (Rose old.reads new.reads ⊎ (Rose old.absences new.absences × (told ≡ true → Answers ReadFault))))
+      ⊎ ((is_fault status ≡ false) × (status ≢ Ok) × (told ≡ true → Answers status)))
+
+-- a run over a trace that can begin
+pub record IsReady (r : TraceRun) : Type 0 where
+  pub program : IsProgramOf r.legal.names r.program
+  pub given : IsTraceOf r.legal.names r.trace
+
+-- the lines that a run over a trace writes
+abbrev pub lines_of_run : TraceRun → List ℕ
+lines_of_run r = run_lines r.shows_duty r.legal.names r.program r.trace
 
 -- why bytes were not written
 pub record Unwritten (told : Bool) (dest code : List ℕ) (old new : ℕ) (held held' : Held) (status : Status) : Type 0 where
   pub why : ((status ≡ WriteFault) × Rose old new) ⊎ (status ≡ NoMemory)
   pub part : told ≡ true → SameHeld held held' ⊎ ((front : List ℕ) × IsFrontOf front code × HoldsThen held held' dest front)
+
+-- the status of a file that could not be read
+abbrev pub unread : OpenFault → Status
+unread (opening.Memory e) = NoMemory
+unread _ = ReadFault
 
 abbrev pub status_of : FileFault → Status
 status_of file.Failed = WriteFault

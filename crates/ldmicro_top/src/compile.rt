@@ -3,13 +3,12 @@
 ghost use Rattle.std.specs.Prelude.{◌≡◌, true, None, Some, IfOk, IfErr};
 ghost use Rattle.std.specs.List.{list_all};
 ghost use Rattle.std.specs.String.{string_bytes};
-ghost use Rattle.ladder_rules.specs.Verdict.{rule};
 ghost use Rattle.ladder_lower.specs.Outcome.{HasSizes, IsSmall};
 ghost use Rattle.ladder_tree.specs.Leaves.{all_leaves};
-ghost use Rattle.ladder_tree.specs.Names.{names_of, has_kind};
+ghost use Rattle.ladder_tree.specs.Names.{has_kind};
 ghost use Rattle.ld_text.specs.Within.{IsWithin};
-ghost use Rattle.ldmicro_top.specs.Expected.{IsDeclined};
-ghost use Rattle.ldmicro_top.specs.Ran.{IsEmitted, IsCompiledText};
+ghost use Rattle.ldmicro_top.specs.Expected.{IsAccepted, IsDeclined};
+ghost use Rattle.ldmicro_top.specs.Ran.{IsEmitted};
 ghost use Rattle.ldmicro_top.specs.Verdict.{misfit};
 ghost use Rattle.ldmicro_top.specs.Placed.{refusal_of, IsPlaced, IsUnplaced};
 
@@ -26,6 +25,13 @@ use ld_text::read::read_project;
 use mem_plan::fault::PlanFault;
 use mem_plan::plan::plan;
 use std::alloc::{AllocError, Global};
+
+/// A project that keeps the rules and fits, and its program.
+#[derive(Debug, Drop)]
+pub struct Placed {
+    pub legal: Legal,
+    pub program: IntProgram,
+}
 
 /// What a project compiles to.
 #[derive(Debug, Drop)]
@@ -59,27 +65,11 @@ fn place(program: &IntProgram, names: &Names, project: &Project) -> Result<(), P
     }
 }
 
-/// Writes a program that fits, and its report.
-fn write(
-    alloc: Global,
-    project: &Project,
-    names: &Names,
-    program: &IntProgram,
-) -> Result<Compiled, AllocError>
-    requires { IsPlaced project.now names.now program.now }
-    ensures { IfOk result (λ c. IsEmitted project.now c.code (string_bytes c.report)) }
-{
-    let code = write_interp(alloc, project.cycle, names, program)?;
-    let report = report(alloc, names, program.ops.len())?;
-    Ok(Compiled { code, report })
-}
-
-/// Lowers, places and writes a project that keeps the rules.
-fn emit(alloc: Global, legal: &Legal) -> Result<Compiled, TextError>
+/// Lowers and places a project that keeps the rules.
+fn lower_placed(alloc: Global, legal: &Legal) -> Result<IntProgram, TextError>
     requires within { IsWithin legal.now.project }
     requires kinds { list_all (λ l. has_kind l.kind) (all_leaves legal.now.project.rungs) ≡ true }
-    ensures fits { IfOk result (λ c. misfit legal.now.project.target (names_of legal.now.project.rungs) ≡ None) }
-    ensures emitted { IfOk result (λ c. IsEmitted legal.now.project c.code (string_bytes c.report)) }
+    ensures placed { IfOk result (IsPlaced legal.now.project legal.now.names) }
     ensures refused { IfErr result (λ e. IsUnplaced legal.now.project e) }
 {
     let project = legal.project();
@@ -88,18 +78,16 @@ fn emit(alloc: Global, legal: &Legal) -> Result<Compiled, TextError>
         Ok(program) => program,
         Err(e) => return Err(TextError::Memory(e)),
     };
-    if let Err(fault) = place(&program, names, project) {
-        return Err(TextError::Refused(fault));
-    }
-    match write(alloc, project, names, &program) {
-        Ok(compiled) => Ok(compiled),
-        Err(e) => Err(TextError::Memory(e)),
+    match place(&program, names, project) {
+        Ok(()) => Ok(program),
+        Err(fault) => Err(TextError::Refused(fault)),
     }
 }
 
-/// Reads, checks, lowers, places and writes a project: each step's promise is the next one's premise.
-pub fn compile_text(alloc: Global, text: &[u8]) -> Result<Compiled, TextError>
-    ensures compiled { IfOk result (λ c. IsCompiledText text.now c.code (string_bytes c.report)) }
+/// Reads, checks, lowers and places a project: each step's promise is the next one's premise.
+pub fn place_text(alloc: Global, text: &[u8]) -> Result<Placed, TextError>
+    ensures accepted { IfOk result (λ c. IsAccepted text.now c.legal.project) }
+    ensures placed { IfOk result (λ c. IsPlaced c.legal.project c.legal.names c.program) }
     ensures refused { IfErr result (IsDeclined text.now) }
 {
     let project = read_project(alloc, text)?;
@@ -108,5 +96,17 @@ pub fn compile_text(alloc: Global, text: &[u8]) -> Result<Compiled, TextError>
         Ok(legal) => legal,
         Err(fault) => return Err(TextError::Refused(fault)),
     };
-    emit(alloc, &legal)
+    let program = lower_placed(alloc, &legal)?;
+    Ok(Placed { legal, program })
+}
+
+/// Writes the program of a project, and its report.
+pub fn write_placed(alloc: Global, placed: &Placed) -> Result<Compiled, AllocError>
+    requires { IsPlaced placed.now.legal.project placed.now.legal.names placed.now.program }
+    ensures { IfOk result (λ c. IsEmitted placed.now.legal.project c.code (string_bytes c.report)) }
+{
+    let names = placed.legal.names();
+    let code = write_interp(alloc, placed.legal.project().cycle, names, &placed.program)?;
+    let report = report(alloc, names, placed.program.ops.len())?;
+    Ok(Compiled { code, report })
 }

@@ -5,9 +5,11 @@ pub mod compile;
 pub mod laws;
 pub mod report;
 pub mod run;
+pub mod sources;
 pub mod status;
 #[cfg(test)]
 mod tests;
+pub mod traced;
 pub mod words;
 #[cfg(test)]
 mod worked;

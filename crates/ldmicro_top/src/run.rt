@@ -1,23 +1,22 @@
 //! The top call, over any files and any output.
 
-ghost use Rattle.std.specs.Prelude.{◌≡◌, ◌≤◌, ℕ, true, List, map, IfOk, IfErr, OnOk};
+ghost use Rattle.std.specs.Prelude.{◌≡◌, ◌≤◌, true, map, IfErr, OnOk};
 ghost use Rattle.std.specs.Rc.{rc_str_bytes};
-ghost use Rattle.std.specs.String.{string_bytes};
-ghost use Rattle.ld_base.specs.Bytes.{SameHeld, HoldsThen};
-ghost use Rattle.ldmicro_top.specs.Command.{command_of, Compile};
-ghost use Rattle.ldmicro_top.specs.Ran.{World, Ran, IsCompiled, IsComplete};
+ghost use Rattle.ld_base.specs.Bytes.{HoldsThen};
+ghost use Rattle.ldmicro_top.specs.Command.{command_of, Compile, Simulate, Replay};
+ghost use Rattle.ldmicro_top.specs.Ran.{World, Ran, IsComplete};
 ghost use Rattle.ldmicro_top.specs.StatusLine.{line_of};
-ghost use Rattle.ldmicro_top.specs.Steps.{Told, Declined, Unwritten, status_of};
+ghost use Rattle.ldmicro_top.specs.Steps.{Told, Unwritten, status_of, lines_of_run, IsReady};
 
-use crate::compile::{Compiled, compile_text};
+use crate::sources::{take_compiled, take_replay, take_simulation};
 use crate::status::{Status, status_line};
-use crate::words::compile_words;
-use ld_base::device::{FileFault, Files, OpenFault, Out};
-use ld_base::whole::{read_file, write_file, write_out};
-use ld_text::fault::TextError;
-use ld_text::read::TEXT_LIMIT;
+use crate::traced::TraceRun;
+use crate::words::{Request, requested};
+use ld_base::device::{FileFault, Files, Out};
+use ld_base::whole::{write_file, write_out};
 use std::alloc::Global;
 use std::rc::RcStr;
+use trace_run::run_trace;
 
 /// Writes a text, and then the status stands.
 fn say<O: Out>(out: &mut O, text: &[u8], status: Status) -> Status
@@ -37,27 +36,6 @@ fn tell<O: Out>(alloc: Global, out: &mut O, status: Status) -> Status
     match status_line(alloc, status) {
         Ok(line) => say(out, line.as_bytes(), status),
         Err(_) => Status::NoMemory,
-    }
-}
-
-/// Reads a source, and compiles it.
-fn judge<F: Files>(alloc: Global, files: &mut F, source: &str) -> Result<Compiled, Status>
-    ensures reads { (F.counts files.old).reads ≤ (F.counts files.new).reads }
-    ensures absences { (F.counts files.old).absences ≤ (F.counts files.new).absences }
-    ensures writes { (F.counts files.new).writes ≡ (F.counts files.old).writes }
-    ensures held { F.tells ≡ true → SameHeld (F.held files.old) (F.held files.new) }
-    ensures accepted { F.tells ≡ true → IfOk result (λ c. IsCompiled source.now (F.held files.old) c.code (string_bytes c.report)) }
-    ensures declined { IfErr result (λ e. (dest : List ℕ) → Declined F.tells source.now dest (F.counts files.old) (F.counts files.new) (F.held files.old) e) }
-{
-    let text = match read_file(alloc, files, source, TEXT_LIMIT) {
-        Ok(text) => text,
-        Err(OpenFault::Memory(_)) => return Err(Status::NoMemory),
-        Err(_) => return Err(Status::ReadFault),
-    };
-    match compile_text(alloc, &text) {
-        Ok(compiled) => Ok(compiled),
-        Err(TextError::Refused(fault)) => Err(Status::Refused(fault)),
-        Err(TextError::Memory(_)) => Err(Status::NoMemory),
     }
 }
 
@@ -102,7 +80,7 @@ fn compile<F: Files, O: Out>(
         let new : World = record { counts = F.counts files.new; held = F.held files.new; faults = O.fault_count out.new; written = O.written out.new } in
         Ran F.tells O.tells (Compile source.now dest.now) old new result }
 {
-    let compiled = match judge(alloc, files, source) {
+    let compiled = match take_compiled(alloc, files, source) {
         Ok(compiled) => compiled,
         Err(status) => return tell(alloc, out, status),
     };
@@ -112,8 +90,66 @@ fn compile<F: Files, O: Out>(
     }
 }
 
+/// Writes the lines of a run over a trace.
+fn show<O: Out>(alloc: Global, out: &mut O, run: TraceRun) -> Status
+    requires { IsReady run }
+    ensures { Told O.tells (O.fault_count out.old) (O.fault_count out.new) (O.written out.old) (O.written out.new) (lines_of_run run) Status.Ok result }
+{
+    let program = run.program;
+    match run_trace(
+        alloc,
+        out,
+        run.legal.names(),
+        run.shows_duty,
+        program,
+        &run.trace,
+    ) {
+        Ok(()) => Status::Ok,
+        Err(fault) => status_of(fault),
+    }
+}
+
+/// Simulates a source over a trace: both are read and judged before the first line is written.
+fn simulate<F: Files, O: Out>(
+    alloc: Global,
+    files: &mut F,
+    out: &mut O,
+    source: &str,
+    trace: &str,
+) -> Status
+    ensures { let old : World = record { counts = F.counts files.old; held = F.held files.old; faults = O.fault_count out.old; written = O.written out.old } in
+        let new : World = record { counts = F.counts files.new; held = F.held files.new; faults = O.fault_count out.new; written = O.written out.new } in
+        Ran F.tells O.tells (Simulate source.now trace.now) old new result }
+{
+    match take_simulation(alloc, files, source, trace) {
+        Ok(run) => show(alloc, out, run),
+        Err(status) => tell(alloc, out, status),
+    }
+}
+
+/// Runs a file of a source's code over a trace: all three are read and judged before the first line is written.
+fn replay<F: Files, O: Out>(
+    alloc: Global,
+    files: &mut F,
+    out: &mut O,
+    source: &str,
+    file: &str,
+    trace: &str,
+) -> Status
+    ensures { let old : World = record { counts = F.counts files.old; held = F.held files.old; faults = O.fault_count out.old; written = O.written out.old } in
+        let new : World = record { counts = F.counts files.new; held = F.held files.new; faults = O.fault_count out.new; written = O.written out.new } in
+        Ran F.tells O.tells (Replay source.now file.now trace.now) old new result }
+{
+    match take_replay(alloc, files, source, file, trace) {
+        Ok(run) => show(alloc, out, run),
+        Err(status) => tell(alloc, out, status),
+    }
+}
+
 /// Does what the words ask for. `/c source dest` compiles the project text that `source` holds to `dest`, and writes
-/// its report out; any other answer writes out the answer's line. Words of no command that is built are answered by Usage.
+/// its report out. `/s source trace` writes out the line of each cycle of the project over a trace, and `/r source file trace`
+/// those of the code that `file` holds. Any other answer writes out its line. Words of no command that is built are
+/// answered by Usage.
 #[tactic(auto, using(crate::proofs::RanLemmas::complete_of, crate::proofs::RanLemmas::useless))]
 pub fn run<F: Files, O: Out>(alloc: Global, words: &[RcStr], files: &mut F, out: &mut O) -> Status
     ensures ran { let old : World = record { counts = F.counts files.old; held = F.held files.old; faults = O.fault_count out.old; written = O.written out.old } in
@@ -123,8 +159,14 @@ pub fn run<F: Files, O: Out>(alloc: Global, words: &[RcStr], files: &mut F, out:
         let new : World = record { counts = F.counts files.new; held = F.held files.new; faults = O.fault_count out.new; written = O.written out.new } in
         IsComplete F.tells (command_of (map rc_str_bytes words.now)) old new result }
 {
-    match compile_words(words) {
-        Some((source, dest)) => compile(alloc, files, out, source, dest),
-        None => tell(alloc, out, Status::Usage),
+    match requested(words) {
+        Request::Compile { source, dest } => compile(alloc, files, out, source, dest),
+        Request::Simulate { source, trace } => simulate(alloc, files, out, source, trace),
+        Request::Replay {
+            source,
+            file,
+            trace,
+        } => replay(alloc, files, out, source, file, trace),
+        Request::Other => tell(alloc, out, Status::Usage),
     }
 }

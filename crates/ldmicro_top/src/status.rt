@@ -23,10 +23,38 @@ pub enum Status {
     WriteFault,
     /// There was not enough memory.
     NoMemory,
+    /// A file that is run, or the trace, is refused.
+    BadInput(InputFault),
+}
+
+/// What is wrong with a file that is run, or with the trace.
+#[derive(Clone, Copy, Debug, PartialEq, Eq)]
+pub enum InputFault {
+    /// The interpretable text is refused at a line.
+    Interp { line: u32 },
+    /// The interpretable text has other names than the project. The line is that of its `code`.
+    OtherProject { line: u32 },
+    /// The trace is refused at a line.
+    Trace { line: u32 },
+}
+
+impl fmt::Display for InputFault {
+    ghost use Rattle.std.specs.Prelude.{Some};
+    ghost use Rattle.ldmicro_top.specs.StatusLine.{input_text};
+
+    ghost output = { λ f. Some (input_text f) };
+
+    fn fmt<W: fmt::Write>(&self, f: &mut fmt::Formatter<W>) -> fmt::Result {
+        match self {
+            InputFault::Interp { line } => write!(f, "file line {line}"),
+            InputFault::OtherProject { line } => write!(f, "file line {line} other project"),
+            InputFault::Trace { line } => write!(f, "trace line {line}"),
+        }
+    }
 }
 
 impl Status {
-    /// The exit status of the program: 0 to 5, in the order of the variants.
+    /// The exit status of the program: 0 to 6, in the order of the variants.
     pub fn code(&self) -> u8
         ensures { result ≡ code_of self.now }
     {
@@ -37,6 +65,7 @@ impl Status {
             Status::ReadFault => 3,
             Status::WriteFault => 4,
             Status::NoMemory => 5,
+            Status::BadInput(_) => 6,
         }
     }
 }
@@ -117,6 +146,7 @@ pub fn status_line(alloc: Global, status: Status) -> Result<String, AllocError>
         ),
         Status::ReadFault => String::from_str(alloc, "read fault\n"),
         Status::Refused(fault) => refusal(alloc, fault),
+        Status::BadInput(fault) => format!(in alloc; "bad input {fault}\n"),
     }
 }
 

@@ -1,13 +1,8 @@
-//! Worked rows, through the top call over files and an output in memory.
+//! Answers and their causes, through the top call over files and an output in memory.
 
 use crate::run::run;
 use crate::status::Status;
-use interp_code::machine::Interp;
-use interp_code::read::read_interp;
-use ladder_meaning::reading::Reading;
-use ladder_tree::element::Nums;
 use ld_base::device::Files;
-use ld_base::list::List;
 use ld_base::mem_files::MemFiles;
 use ld_base::mem_out::MemOut;
 use std::alloc::{AllocError, Global};
@@ -38,7 +33,7 @@ fn words(alloc: Global, list: &[&str]) -> Result<Vec<RcStr>, AllocError> {
 }
 
 /// The header and the lines of rungs.
-fn project(alloc: Global, rungs: &str) -> Result<String, AllocError> {
+pub fn project(alloc: Global, rungs: &str) -> Result<String, AllocError> {
     let mut text = String::from_str(alloc, HEADER)?;
     text.push_str(rungs)?;
     Ok(text)
@@ -67,103 +62,16 @@ pub fn compile(
     })
 }
 
-/// A reading with these levels of inputs, of a text of digits.
-fn reading(alloc: Global, levels: &str) -> Result<Reading, AllocError> {
-    let mut inputs = List::new(alloc);
-    for level in levels.bytes() {
-        inputs.push(level == b'1')?;
-    }
-    Ok(Reading {
-        inputs,
-        analog: Nums::new(alloc),
-        rx: None,
-        tx_busy: false,
-        ee_busy: false,
-    })
-}
-
-/// Appends levels as digits, with a blank behind.
-fn push_levels(line: &mut String, levels: &[bool]) -> Result<(), AllocError> {
-    for level in levels {
-        line.push_str(if *level { "1" } else { "0" })?;
-    }
-    line.push_str(" ")
-}
-
-/// The outputs and the relays of a machine after a cycle with these inputs.
-fn cycle(alloc: Global, machine: &mut Interp, levels: &str) -> Result<String, AllocError> {
-    let reading = reading(alloc, levels)?;
-    let mut line = String::new(alloc);
-    let program = machine.program();
-    if reading.inputs.len() == program.inputs as usize
-        && reading.analog.len() == program.analogs as usize
-    {
-        machine.cycle(&reading);
-        let view = machine.view(alloc)?;
-        push_levels(&mut line, view.outputs.as_slice())?;
-        push_levels(&mut line, view.relays.as_slice())?;
-    }
-    Ok(line)
-}
-
-/// What was written shows in each cycle, whose inputs are a text of digits.
-fn shown(alloc: Global, rungs: &str, inputs: &[&str]) -> Result<String, Fail> {
-    let left = compile(alloc, rungs, 0, 0)?;
-    let program = read_interp(alloc, &left.code)?;
-    let mut machine = Interp::new(alloc, program, &[0xff; 512])?;
-    let mut all = String::new(alloc);
-    for levels in inputs {
-        all.push_str(cycle(alloc, &mut machine, levels)?.as_str())?;
-    }
-    Ok(all)
-}
-
-#[test]
-fn contacts_and_coils(rt: HostRuntime) -> Result<(), Fail> {
-    let alloc = rt.alloc();
-    let copied = shown(alloc, COPY, &["0", "1"])?;
-    assert_eq!(rt; copied.as_str(), "0  1  ");
-    let toggled = shown(
-        alloc,
-        "RUNG\nCONTACTS Xa 0\nCONTACTS Rb 1\nCOIL Rb 0 0 0\nEND\n",
-        &["1", "1", "1"],
-    )?;
-    assert_eq!(rt; toggled.as_str(), " 1  0  1 ");
-    Ok(())
-}
-
-#[test]
-fn one_shots(rt: HostRuntime) -> Result<(), Fail> {
-    let edges = shown(
-        rt.alloc(),
-        "RUNG\nCONTACTS Xa 0\nOSR\nCOIL Yb 0 0 0\nEND\nRUNG\nCONTACTS Xa 0\nOSF\nCOIL Yc 0 0 0\nEND\n",
-        &["0", "1", "1", "0"],
-    )?;
-    assert_eq!(rt; edges.as_str(), "00  10  00  01  ");
-    Ok(())
-}
-
-#[test]
-fn branches(rt: HostRuntime) -> Result<(), Fail> {
-    let alloc = rt.alloc();
-    let either = shown(
-        alloc,
-        "RUNG\nPARALLEL\nOPEN\nSHORT\nEND\nCOIL Yb 0 0 0\nEND\n",
-        &[""],
-    )?;
-    assert_eq!(rt; either.as_str(), "1  ");
-    Ok(())
-}
-
-#[test]
-fn a_latching_circuit(rt: HostRuntime) -> Result<(), Fail> {
-    let motor = shown(
-        rt.alloc(),
-        "RUNG\nPARALLEL\nCONTACTS Xstart 0\nCONTACTS Rrun 0\nEND\nCONTACTS Xstop 1\nCOIL Rrun 0 0 0\nEND\n",
-        &["00", "10", "00", "01", "00"],
-    )?;
-    assert_eq!(rt; motor.as_str(), " 0  1  1  0  0 ");
-    Ok(())
+/// What words print over the files.
+pub fn printed_by(
+    alloc: Global,
+    files: &mut MemFiles,
+    list: &[&str],
+) -> Result<Vec<u8>, AllocError> {
+    let mut out = MemOut::new(alloc);
+    let words = words(alloc, list)?;
+    run(alloc, &words, files, &mut out);
+    Vec::from_slice(alloc, out.bytes())
 }
 
 #[test]
@@ -193,11 +101,8 @@ fn reports_and_refusals(rt: HostRuntime) -> Result<(), Fail> {
 /// What `/c a b` prints where `a` holds the text.
 fn printed(alloc: Global, text: &str) -> Result<Vec<u8>, AllocError> {
     let mut files = MemFiles::new(alloc);
-    let mut out = MemOut::new(alloc);
     files.put("a", text.as_bytes())?;
-    let words = words(alloc, &["/c", "a", "b"])?;
-    run(alloc, &words, &mut files, &mut out);
-    Vec::from_slice(alloc, out.bytes())
+    printed_by(alloc, &mut files, &["/c", "a", "b"])
 }
 
 #[test]
@@ -297,5 +202,141 @@ fn other_words_and_absent_sources(rt: HostRuntime) -> Result<(), Fail> {
         out.bytes(),
         b"usage: ldmicro /c source dest | /s source trace | /r source file trace | /g number dest\nread fault\n".as_slice()
     );
+    Ok(())
+}
+
+/// A source, the code to which it compiles, that of a source with another output, and a trace of two cycles.
+fn files_of_runs(alloc: Global) -> Result<MemFiles, AllocError> {
+    let other = "RUNG\nCONTACTS Xa 0\nCOIL Yc 0 0 0\nEND\n";
+    let mut files = MemFiles::new(alloc);
+    files.put("source", project(alloc, COPY)?.as_bytes())?;
+    files.put("other", project(alloc, other)?.as_bytes())?;
+    printed_by(alloc, &mut files, &["/c", "source", "code"])?;
+    printed_by(alloc, &mut files, &["/c", "other", "othercode"])?;
+    files.put("trace", b"Xa=0\nXa=1\n")?;
+    Ok(files)
+}
+
+/// The exit status of the words over these files, and what they print, where the calls of these numbers behind the
+/// present one fail: of the files, and of the output.
+fn run_with(
+    alloc: Global,
+    list: &[&str],
+    file_call: u64,
+    out_call: u64,
+) -> Result<(u8, Vec<u8>), AllocError> {
+    let mut files = files_of_runs(alloc)?;
+    let mut out = MemOut::new(alloc);
+    files.fail_at(file_call)?;
+    out.fail_at(out_call)?;
+    let words = words(alloc, list)?;
+    let status = run(alloc, &words, &mut files, &mut out);
+    Ok((status.code(), Vec::from_slice(alloc, out.bytes())?))
+}
+
+/// Whether each of these calls of the files, where it fails, is told as a read fault.
+fn are_read_faults(alloc: Global, list: &[&str], first: u64, end: u64) -> Result<bool, AllocError> {
+    for call in first..end {
+        let (code, printed) = run_with(alloc, list, call, 0)?;
+        if code != 3 || printed.as_slice() != b"read fault\n".as_slice() {
+            return Ok(false);
+        }
+    }
+    Ok(true)
+}
+
+/// Whether a write of the output that fails ends a run of two cycles behind the lines in front of it.
+fn ends_at_failed_writes(alloc: Global, list: &[&str]) -> Result<bool, AllocError> {
+    let rows = [
+        (0, 0, "1 Yb=0\n2 Yb=1\n"),
+        (1, 4, ""),
+        (2, 4, "1 Yb=0\n"),
+        (3, 0, "1 Yb=0\n2 Yb=1\n"),
+    ];
+    for (call, code, want) in rows {
+        let (found, printed) = run_with(alloc, list, 0, call)?;
+        if found != code || printed.as_slice() != want.as_bytes() {
+            return Ok(false);
+        }
+    }
+    Ok(true)
+}
+
+/// Two compiles make 12 calls of the files. A run opens each file, reads it, and reads nothing more of it.
+#[test]
+fn each_call_of_a_run_that_fails_is_told(rt: HostRuntime) -> Result<(), Fail> {
+    let alloc = rt.alloc();
+    assert!(rt; are_read_faults(alloc, &["/s", "source", "trace"], 13, 19)?);
+    assert!(rt; are_read_faults(alloc, &["/r", "source", "code", "trace"], 13, 22)?);
+    assert!(rt; ends_at_failed_writes(alloc, &["/s", "source", "trace"])?);
+    assert!(rt; ends_at_failed_writes(alloc, &["/r", "source", "code", "trace"])?);
+    Ok(())
+}
+
+#[test]
+fn simulations_that_are_refused(rt: HostRuntime) -> Result<(), Fail> {
+    let rows = [
+        (["/s", "absent", "trace"], 3, "read fault\n"),
+        (["/s", "source", "absent"], 3, "read fault\n"),
+        (["/s", "trace", "trace"], 2, "refused 1 NotProject line 1\n"),
+        (["/s", "source", "source"], 6, "bad input trace line 1\n"),
+    ];
+    for (list, code, want) in rows {
+        let (found, printed) = run_with(rt.alloc(), &list, 0, 0)?;
+        assert_eq!(rt; found, code, "at {want}");
+        assert_eq!(rt; printed.as_slice(), want.as_bytes(), "at {want}");
+    }
+    Ok(())
+}
+
+#[test]
+fn runs_that_are_refused(rt: HostRuntime) -> Result<(), Fail> {
+    let rows = [
+        (["/r", "absent", "code", "trace"], 3, "read fault\n"),
+        (["/r", "source", "absent", "trace"], 3, "read fault\n"),
+        (["/r", "source", "code", "absent"], 3, "read fault\n"),
+        (
+            ["/r", "source", "trace", "absent"],
+            6,
+            "bad input file line 1\n",
+        ),
+        (
+            ["/r", "source", "othercode", "absent"],
+            6,
+            "bad input file line 6 other project\n",
+        ),
+        (
+            ["/r", "source", "code", "code"],
+            6,
+            "bad input trace line 1\n",
+        ),
+    ];
+    for (list, code, want) in rows {
+        let (found, printed) = run_with(rt.alloc(), &list, 0, 0)?;
+        assert_eq!(rt; found, code, "at {want}");
+        assert_eq!(rt; printed.as_slice(), want.as_bytes(), "at {want}");
+    }
+    Ok(())
+}
+
+#[test]
+fn traces_that_are_refused(rt: HostRuntime) -> Result<(), Fail> {
+    let alloc = rt.alloc();
+    let mut files = files_of_runs(alloc)?;
+    let rows = [
+        ("Xq=1\n", "bad input trace line 1\n"),
+        ("Xa=2\n", "bad input trace line 1\n"),
+        ("Xa=1\n100000:\n", "bad input trace line 2\n"),
+    ];
+    for (trace, want) in rows {
+        files.put("trace", trace.as_bytes())?;
+        for words in [
+            ["/s", "source", "trace"].as_slice(),
+            ["/r", "source", "code", "trace"].as_slice(),
+        ] {
+            let found = printed_by(alloc, &mut files, words)?;
+            assert_eq!(rt; found.as_slice(), want.as_bytes(), "at {trace}");
+        }
+    }
     Ok(())
 }

@@ -1,73 +1,60 @@
-//! Worked rows: what compiled projects show cycle by cycle, and what they are refused for.
+//! Worked rows: what projects show cycle by cycle, and what they are refused for.
 
 use crate::status::Status;
-use crate::tests::compile;
-use interp_code::machine::Interp;
-use interp_code::read::read_interp;
-use ladder_meaning::reading::Reading;
-use ladder_trace::shown::shown_line;
-use ladder_trace::trace::{Trace, read_trace};
-use ld_base::list::List;
+use crate::tests::{compile, printed_by, project};
+use ld_base::mem_files::MemFiles;
 use std::alloc::{AllocError, Global};
 use std::test::Fail;
 
-/// The line of a cycle, or none where a reading or a view has not the program's sizes.
-fn line(
-    alloc: Global,
-    machine: &mut Interp,
-    reading: &Reading,
-    cycle: u32,
-) -> Result<List<u8>, AllocError> {
-    let inputs = machine.program().inputs as usize;
-    let analogs = machine.program().analogs as usize;
-    if reading.inputs.len() != inputs || reading.analog.len() != analogs {
-        return Ok(List::new(alloc));
-    }
-    machine.cycle(reading);
-    let view = machine.view(alloc)?;
-    let names = machine.names();
-    if view.outputs.len() != names.outputs.len()
-        || view.relays.len() != names.relays.len()
-        || view.variables.len() != names.variables.len()
-    {
-        return Ok(List::new(alloc));
-    }
-    shown_line(alloc, names, cycle, &view)
+/// Whether `/s`, and `/r` behind `/c`, print these lines for the rungs over a trace.
+fn shows(alloc: Global, rungs: &str, trace: &str, want: &str) -> Result<bool, AllocError> {
+    let mut files = MemFiles::new(alloc);
+    files.put("a", project(alloc, rungs)?.as_bytes())?;
+    files.put("t", trace.as_bytes())?;
+    let simulated = printed_by(alloc, &mut files, &["/s", "a", "t"])?;
+    printed_by(alloc, &mut files, &["/c", "a", "b"])?;
+    let run = printed_by(alloc, &mut files, &["/r", "a", "b", "t"])?;
+    Ok(simulated.as_slice() == want.as_bytes() && run.as_slice() == want.as_bytes())
 }
 
-/// The bytes of a trace's EEPROM.
-fn eeprom(trace: &Trace) -> [u8; 512] {
-    let mut bytes = [0xff; 512];
-    for k in 0..512 {
-        if k < trace.eeprom.len() {
-            bytes[k] = *trace.eeprom.get(k);
-        }
+#[test]
+fn contacts_and_coils(rt: HostRuntime) -> Result<(), Fail> {
+    let rows = [
+        (
+            "RUNG\nCONTACTS Xa 0\nCOIL Yb 0 0 0\nEND\n",
+            "Xa=0\nXa=1\n",
+            "1 Yb=0\n2 Yb=1\n",
+        ),
+        (
+            "RUNG\nCONTACTS Xa 0\nCONTACTS Rb 1\nCOIL Rb 0 0 0\nEND\n",
+            "3: Xa=1\n",
+            "1 Rb=1\n2 Rb=0\n3 Rb=1\n",
+        ),
+        (
+            "RUNG\nPARALLEL\nOPEN\nSHORT\nEND\nCOIL Yb 0 0 0\nEND\n",
+            "\n1:\n",
+            "1 Yb=1\n",
+        ),
+        (
+            "RUNG\nCONTACTS Xa 0\nOSR\nCOIL Yb 0 0 0\nEND\nRUNG\nCONTACTS Xa 0\nOSF\nCOIL Yc 0 0 0\nEND\n",
+            "Xa=0\n2: Xa=1\nXa=0\n",
+            "1 Yb=0 Yc=0\n2 Yb=1 Yc=0\n3 Yb=0 Yc=0\n4 Yb=0 Yc=1\n",
+        ),
+    ];
+    for (rungs, trace, want) in rows {
+        assert!(rt; shows(rt.alloc(), rungs, trace, want)?, "at {rungs}");
     }
-    bytes
+    Ok(())
 }
 
-/// The lines of the cycles of a trace's steps.
-fn lines(alloc: Global, machine: &mut Interp, trace: &Trace) -> Result<Vec<u8>, AllocError> {
-    let mut all = Vec::new(alloc);
-    let mut cycle: u32 = 0;
-    for step in trace.steps.as_slice() {
-        for _ in 0..step.times {
-            cycle = cycle.wrapping_add(1);
-            let shown = line(alloc, machine, &step.reading, cycle)?;
-            all.extend_from_slice(shown.as_slice())?;
-        }
-    }
-    Ok(all)
-}
-
-/// What the rungs compile to, run over a trace.
-fn shown(alloc: Global, rungs: &str, trace: &str) -> Result<Vec<u8>, Fail> {
-    let left = compile(alloc, rungs, 0, 0)?;
-    let program = read_interp(alloc, &left.code)?;
-    let trace = read_trace(alloc, &program.names, trace.as_bytes())?;
-    let bytes = eeprom(&trace);
-    let mut machine = Interp::new(alloc, program, &bytes)?;
-    Ok(lines(alloc, &mut machine, &trace)?)
+#[test]
+fn a_latching_circuit(rt: HostRuntime) -> Result<(), Fail> {
+    let rungs =
+        "RUNG\nPARALLEL\nCONTACTS Xstart 0\nCONTACTS Rrun 0\nEND\nCONTACTS Xstop 1\nCOIL Rrun 0 0 0\nEND\n";
+    let trace = "1:\nXstart=1\nXstart=0\nXstop=1\nXstop=0\n";
+    let want = "1 Rrun=0\n2 Rrun=1\n3 Rrun=1\n4 Rrun=0\n5 Rrun=0\n";
+    assert!(rt; shows(rt.alloc(), rungs, trace, want)?);
+    Ok(())
 }
 
 #[test]
@@ -83,8 +70,7 @@ fn master_relays(rt: HostRuntime) -> Result<(), Fail> {
         ),
     ];
     for (rungs, want) in rows {
-        let found = shown(rt.alloc(), rungs, "1:\n")?;
-        assert_eq!(rt; found.as_slice(), want.as_bytes(), "at {rungs}");
+        assert!(rt; shows(rt.alloc(), rungs, "1:\n", want)?, "at {rungs}");
     }
     Ok(())
 }
@@ -104,8 +90,7 @@ fn timers(rt: HostRuntime) -> Result<(), Fail> {
         ),
     ];
     for (rungs, trace, want) in rows {
-        let found = shown(rt.alloc(), rungs, trace)?;
-        assert_eq!(rt; found.as_slice(), want.as_bytes(), "at {rungs}");
+        assert!(rt; shows(rt.alloc(), rungs, trace, want)?, "at {rungs}");
     }
     Ok(())
 }
@@ -125,8 +110,7 @@ fn counters(rt: HostRuntime) -> Result<(), Fail> {
         ),
     ];
     for (rungs, trace, want) in rows {
-        let found = shown(rt.alloc(), rungs, trace)?;
-        assert_eq!(rt; found.as_slice(), want.as_bytes(), "at {rungs}");
+        assert!(rt; shows(rt.alloc(), rungs, trace, want)?, "at {rungs}");
     }
     Ok(())
 }
@@ -151,8 +135,7 @@ fn numbers(rt: HostRuntime) -> Result<(), Fail> {
         ),
     ];
     for (rungs, trace, want) in rows {
-        let found = shown(rt.alloc(), rungs, trace)?;
-        assert_eq!(rt; found.as_slice(), want.as_bytes(), "at {rungs}");
+        assert!(rt; shows(rt.alloc(), rungs, trace, want)?, "at {rungs}");
     }
     Ok(())
 }
@@ -171,8 +154,7 @@ fn serial_lines(rt: HostRuntime) -> Result<(), Fail> {
         (sends, "tx=1\n", "1 Yp=1 Yq=1 n=300\n"),
     ];
     for (rungs, trace, want) in rows {
-        let found = shown(rt.alloc(), rungs, trace)?;
-        assert_eq!(rt; found.as_slice(), want.as_bytes(), "at {rungs}");
+        assert!(rt; shows(rt.alloc(), rungs, trace, want)?, "at {rungs}");
     }
     Ok(())
 }
@@ -197,8 +179,7 @@ fn converter_pulses_and_eeprom(rt: HostRuntime) -> Result<(), Fail> {
         ),
     ];
     for (rungs, trace, want) in rows {
-        let found = shown(rt.alloc(), rungs, trace)?;
-        assert_eq!(rt; found.as_slice(), want.as_bytes(), "at {rungs}");
+        assert!(rt; shows(rt.alloc(), rungs, trace, want)?, "at {rungs}");
     }
     Ok(())
 }

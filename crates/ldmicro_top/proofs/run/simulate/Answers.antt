@@ -1,0 +1,32 @@
+use Rattle.std.proofs.Common.{arith, []}
+use Rattle.ldmicro_top.specs.Command.{Command, Simulate}
+use Rattle.ldmicro_top.specs.Ran.{World}
+use Rattle.ldmicro_top.specs.Steps.{lines_of_run}
+use Rattle.ldmicro_top.proofs.GoodLemmas.{simulated_good}
+use Rattle.ldmicro_top.proofs.RanLemmas.{Later, declined, reported}
+use Rattle.ldmicro_top.proofs.run.simulate.Goals as goal
+
+pub returns-in-Err : goal.returns-in-Err
+returns-in-Err g c =
+    let F = g.F.Files in
+    let O = g.O.Out in
+    let only = c.take_simulation.ensures.only in
+    let command : Command = Simulate c.args.source.now c.args.trace.now in
+    let old : World = record { counts = F.counts c.args.files.now; held = F.held c.args.files.now; faults = O.fault_count c.args.out.now; written = O.written c.args.out.now } in
+    let new : World = record { counts = F.counts c.take_simulation.new.files; held = F.held c.take_simulation.new.files; faults = O.fault_count c.tell.new.out; written = O.written c.tell.new.out } in
+    let later : Later old new = record { reads = only.reads; absences = only.absences; writes = omega (arith, only.writes); faults = c.tell.ensures.later } in
+    declined F.tells O.tells command old new later c.in-Err.status c.tell.result tt c.in-Err.ensures.declined only.same c.tell.ensures
+
+pub returns-in-Ok : goal.returns-in-Ok
+returns-in-Ok g c =
+    let F = g.F.Files in
+    let O = g.O.Out in
+    let only = c.take_simulation.ensures.only in
+    let command : Command = Simulate c.args.source.now c.args.trace.now in
+    let printed = lines_of_run c.in-Ok.run' in
+    let old : World = record { counts = F.counts c.args.files.now; held = F.held c.args.files.now; faults = O.fault_count c.args.out.now; written = O.written c.args.out.now } in
+    let new : World = record { counts = F.counts c.take_simulation.new.files; held = F.held c.take_simulation.new.files; faults = O.fault_count c.show.new.out; written = O.written c.show.new.out } in
+    let later : Later old new = record { reads = only.reads; absences = only.absences; writes = omega (arith, only.writes); faults = c.show.ensures.later } in
+    reported F.tells O.tells command old new later [] printed c.show.result
+    (λ y. simulated_good c.args.source.now c.args.trace.now old.held printed (c.in-Ok.ensures.simulated y))
+    c.in-Ok.ensures.simulated only.same c.show.ensures

@@ -1,0 +1,208 @@
+//! What the names of a command hold: projects, traces and code.
+
+ghost use Rattle.std.specs.Prelude.{◌≡◌, true, IfOk, IfErr, Decides};
+ghost use Rattle.ladder_trace.specs.Trace.{IsTraceOf};
+ghost use Rattle.trace_run.specs.Run.{IsProgramOf};
+ghost use Rattle.ldmicro_top.specs.Expected.{HeldAnswers, ProjectAnswers, CodeAnswers, TraceAnswers, Expected};
+ghost use Rattle.ldmicro_top.specs.Command.{Simulate, Replay};
+ghost use Rattle.ldmicro_top.specs.Ran.{IsCompiled, IsSimulated, IsReplayed};
+ghost use Rattle.ldmicro_top.specs.Replayed.{SameNames};
+ghost use Rattle.ldmicro_top.specs.Sources.{HoldsProject, HoldsTrace, HoldsCode};
+ghost use Rattle.ldmicro_top.specs.Steps.{OnlyReads, Declined, unread, lines_of_run, IsReady};
+ghost use Rattle.ldmicro_top.specs.Placed.{IsPlaced};
+ghost use Rattle.std.specs.String.{string_bytes};
+
+use crate::compile::{Compiled, Placed, place_text, write_placed};
+use crate::status::{InputFault, Status};
+use crate::traced::TraceRun;
+use int_code::op::IntProgram;
+use int_sim::has_pwm;
+use interp_code::read::{InterpError, read_interp};
+use ladder_trace::trace::{Trace, TraceError, read_trace};
+use ladder_tree::names::{NameList, Names};
+use ld_base::device::{Files, OpenFault};
+use ld_base::whole::read_file;
+use ld_text::fault::TextError;
+use ld_text::read::TEXT_LIMIT;
+use std::alloc::Global;
+
+/// How many bytes an interpretable text may have.
+const CODE_LIMIT: usize = 67_108_864;
+
+/// How many bytes a trace may have.
+const TRACE_LIMIT: usize = 8_388_608;
+
+/// The status of a file that could not be read.
+fn unread(fault: OpenFault) -> Status
+    ensures { result ≡ unread fault }
+{
+    match fault {
+        OpenFault::Memory(_) => Status::NoMemory,
+        OpenFault::Failed | OpenFault::Absent => Status::ReadFault,
+    }
+}
+
+/// The project that a source holds, with its program.
+pub fn take_project<F: Files>(alloc: Global, files: &mut F, source: &str) -> Result<Placed, Status>
+    ensures only { OnlyReads F.tells (F.counts files.old) (F.counts files.new) (F.held files.old) (F.held files.new) }
+    ensures placed { IfOk result (λ c. IsPlaced c.legal.project c.legal.names c.program) }
+    ensures holds { F.tells ≡ true → IfOk result (λ c. HoldsProject (F.held files.old) source.now c.legal.project) }
+    ensures declined { IfErr result (Declined F.tells (HeldAnswers (ProjectAnswers (λ p a. ⊥)) (F.held files.old source.now)) (F.counts files.old) (F.counts files.new)) }
+{
+    let text = match read_file(alloc, files, source, TEXT_LIMIT) {
+        Ok(text) => text,
+        Err(fault) => return Err(unread(fault)),
+    };
+    match place_text(alloc, &text) {
+        Ok(placed) => Ok(placed),
+        Err(TextError::Refused(fault)) => Err(Status::Refused(fault)),
+        Err(TextError::Memory(_)) => Err(Status::NoMemory),
+    }
+}
+
+/// The trace that a name holds, for a project with the names.
+pub fn take_trace<F: Files>(
+    alloc: Global,
+    files: &mut F,
+    name: &str,
+    names: &Names,
+) -> Result<Trace, Status>
+    ensures only { OnlyReads F.tells (F.counts files.old) (F.counts files.new) (F.held files.old) (F.held files.new) }
+    ensures fits { IfOk result (IsTraceOf names.now) }
+    ensures holds { F.tells ≡ true → IfOk result (HoldsTrace (F.held files.old) name.now names.now) }
+    ensures declined { IfErr result (Declined F.tells (HeldAnswers (TraceAnswers names.now) (F.held files.old name.now)) (F.counts files.old) (F.counts files.new)) }
+{
+    let text = match read_file(alloc, files, name, TRACE_LIMIT) {
+        Ok(text) => text,
+        Err(fault) => return Err(unread(fault)),
+    };
+    match read_trace(alloc, names, &text) {
+        Ok(trace) => Ok(trace),
+        Err(TraceError::Fault { line }) => Err(Status::BadInput(InputFault::Trace { line })),
+        Err(TraceError::Memory(_)) => Err(Status::NoMemory),
+    }
+}
+
+/// Whether two lists have the same names in the same order.
+fn same_list(a: &NameList, b: &NameList) -> bool
+    ensures { Decides result (b.now ≡ a.now) }
+{
+    if a.len() != b.len() {
+        return false;
+    }
+    for place in 0..a.len() {
+        if a.get(place).as_slice() != b.get(place).as_slice() {
+            return false;
+        }
+    }
+    true
+}
+
+/// Whether the names of each kind are the same.
+fn same_names(a: &Names, b: &Names) -> bool
+    ensures { Decides result (SameNames a.now b.now) }
+{
+    same_list(&a.inputs, &b.inputs)
+        && same_list(&a.outputs, &b.outputs)
+        && same_list(&a.analog, &b.analog)
+        && same_list(&a.variables, &b.variables)
+        && same_list(&a.relays, &b.relays)
+        && same_list(&a.persistent, &b.persistent)
+}
+
+/// The program that a name holds as an interpretable text, with the names.
+pub fn take_code<F: Files>(
+    alloc: Global,
+    files: &mut F,
+    name: &str,
+    names: &Names,
+) -> Result<IntProgram, Status>
+    ensures only { OnlyReads F.tells (F.counts files.old) (F.counts files.new) (F.held files.old) (F.held files.new) }
+    ensures fits { IfOk result (IsProgramOf names.now) }
+    ensures holds { F.tells ≡ true → IfOk result (HoldsCode (F.held files.old) name.now names.now) }
+    ensures declined { IfErr result (Declined F.tells (HeldAnswers (CodeAnswers names.now (λ a. ⊥)) (F.held files.old name.now)) (F.counts files.old) (F.counts files.new)) }
+{
+    let text = match read_file(alloc, files, name, CODE_LIMIT) {
+        Ok(text) => text,
+        Err(fault) => return Err(unread(fault)),
+    };
+    match read_interp(alloc, &text) {
+        Ok(said) => {
+            if !same_names(names, &said.names) {
+                let line = said.code_line;
+                return Err(Status::BadInput(InputFault::OtherProject { line }));
+            }
+            Ok(said.program)
+        }
+        Err(InterpError::Fault(fault)) => {
+            let line = fault.line;
+            Err(Status::BadInput(InputFault::Interp { line }))
+        }
+        Err(InterpError::Memory(_)) => Err(Status::NoMemory),
+    }
+}
+
+/// What a source compiles to.
+pub fn take_compiled<F: Files>(
+    alloc: Global,
+    files: &mut F,
+    source: &str,
+) -> Result<Compiled, Status>
+    ensures only { OnlyReads F.tells (F.counts files.old) (F.counts files.new) (F.held files.old) (F.held files.new) }
+    ensures compiled { F.tells ≡ true → IfOk result (λ c. IsCompiled source.now (F.held files.old) c.code (string_bytes c.report)) }
+    ensures declined { IfErr result (Declined F.tells (HeldAnswers (ProjectAnswers (λ p a. ⊥)) (F.held files.old source.now)) (F.counts files.old) (F.counts files.new)) }
+{
+    let placed = take_project(alloc, files, source)?;
+    match write_placed(alloc, &placed) {
+        Ok(compiled) => Ok(compiled),
+        Err(_) => Err(Status::NoMemory),
+    }
+}
+
+/// The simulation of a source over a trace: by the program to which the source is lowered.
+pub fn take_simulation<F: Files>(
+    alloc: Global,
+    files: &mut F,
+    source: &str,
+    trace: &str,
+) -> Result<TraceRun, Status>
+    ensures only { OnlyReads F.tells (F.counts files.old) (F.counts files.new) (F.held files.old) (F.held files.new) }
+    ensures ready { IfOk result IsReady }
+    ensures simulated { F.tells ≡ true → IfOk result (λ r. IsSimulated source.now trace.now (F.held files.old) (lines_of_run r)) }
+    ensures declined { IfErr result (Declined F.tells (Expected (Simulate source.now trace.now) (F.held files.old)) (F.counts files.old) (F.counts files.new)) }
+{
+    let placed = take_project(alloc, files, source)?;
+    let trace = take_trace(alloc, files, trace, placed.legal.names())?;
+    let shows_duty = has_pwm(placed.program.ops.as_slice());
+    Ok(TraceRun {
+        legal: placed.legal,
+        program: placed.program,
+        shows_duty,
+        trace,
+    })
+}
+
+/// The run of a file of a source's code over a trace. The file is judged before the trace is opened.
+pub fn take_replay<F: Files>(
+    alloc: Global,
+    files: &mut F,
+    source: &str,
+    file: &str,
+    trace: &str,
+) -> Result<TraceRun, Status>
+    ensures only { OnlyReads F.tells (F.counts files.old) (F.counts files.new) (F.held files.old) (F.held files.new) }
+    ensures ready { IfOk result IsReady }
+    ensures replayed { F.tells ≡ true → IfOk result (λ r. IsReplayed source.now file.now trace.now (F.held files.old) (lines_of_run r)) }
+    ensures declined { IfErr result (Declined F.tells (Expected (Replay source.now file.now trace.now) (F.held files.old)) (F.counts files.old) (F.counts files.new)) }
+{
+    let placed = take_project(alloc, files, source)?;
+    let shows_duty = has_pwm(placed.program.ops.as_slice());
+    let program = take_code(alloc, files, file, placed.legal.names())?;
+    let trace = take_trace(alloc, files, trace, placed.legal.names())?;
+    Ok(TraceRun {
+        legal: placed.legal,
+        program,
+        shows_duty,
+        trace,
+    })
+}

@@ -1,0 +1,3 @@
+pub mod ViewLemmas
+pub mod LineLemmas
+pub mod StepLemmas

@@ -1,0 +1,6 @@
+//! A program that is run over a trace, with a line for each cycle.
+#![tactic(auto)]
+
+mod run;
+
+pub use run::run_trace;

@@ -1,0 +1,228 @@
+//! Runs a program over a trace.
+
+ghost use Rattle.std.specs.Prelude.{◌≡◌, ℕ, ◌+◌, ◌<◌, ◌≤◌, true, List, [], ◌∷◌, ◌++◌, replicate, slice_index_or, OnOk};
+ghost use Rattle.ld_base.specs.Counts.{OutCount};
+ghost use Rattle.ladder_trace.specs.Token.{IsReadingOf};
+ghost use Rattle.ladder_trace.specs.Line.{most_cycles};
+ghost use Rattle.ladder_trace.specs.Trace.{IsTraceOf};
+ghost use Rattle.ladder_trace.specs.Simulated.{eeprom_of};
+ghost use Rattle.trace_run.specs.Held.{point_of, lines_behind, IsSame};
+ghost use Rattle.trace_run.specs.Run.{behind, run_lines, IsProgramOf};
+
+use int_code::op::IntProgram;
+use int_sim::Sim;
+use ladder_meaning::reading::Reading;
+use ladder_trace::shown::shown_line;
+use ladder_trace::trace::{Step, Trace};
+use ladder_tree::names::Names;
+use ld_base::device::{FileFault, Out};
+use ld_base::whole::write_out;
+use std::alloc::Global;
+
+/// A simulator, and how its cycles are shown.
+#[derive(Drop)]
+pub struct Run<'a> {
+    pub names: &'a Names,
+    pub shows_duty: bool,
+    pub sim: Sim,
+    /// How many cycles were shown: a trace has 100,000 at most.
+    pub passed: u32,
+}
+
+impl Run<'_> {
+    /// Runs a cycle, and writes its line. A fault writes a front of it.
+    fn cycle<O: Out>(
+        &mut self,
+        alloc: Global,
+        out: &mut O,
+        reading: &Reading,
+    ) -> Result<(), FileFault>
+        requires program { IsProgramOf self.old.names.now self.old.sim.program }
+        requires reading { IsReadingOf self.old.names.now reading.now }
+        requires few { self.old.passed < most_cycles }
+        ensures same { IsSame self.old self.new }
+        ensures point { OnOk result (point_of self.new ≡ behind self.old.sim.program (point_of self.old) (reading.now ∷ [])) }
+        ensures count { OutCount (O.fault_count out.old) (O.fault_count out.new) result }
+        ensures whole { O.tells ≡ true → OnOk result (O.written out.new ≡ O.written out.old ++ lines_behind self.old (reading.now ∷ [])) }
+        ensures part { O.tells ≡ true → (front : List ℕ) × (rest : List ℕ) × (lines_behind self.old (reading.now ∷ []) ≡ front ++ rest) × (O.written out.new ≡ O.written out.old ++ front) }
+    {
+        self.sim.cycle(reading);
+        self.passed += 1;
+        let view = self.sim.view_by(alloc, self.names, self.shows_duty)?;
+        let line = shown_line(alloc, self.names, self.passed, &view)?;
+        write_out(out, line.as_slice())
+    }
+
+    /// Runs the cycles of a step.
+    fn step<O: Out>(&mut self, alloc: Global, out: &mut O, step: &Step) -> Result<(), FileFault>
+        requires program { IsProgramOf self.old.names.now self.old.sim.program }
+        requires reading { IsReadingOf self.old.names.now step.now.reading }
+        requires few { self.old.passed + step.now.times ≤ most_cycles }
+        ensures same { IsSame self.old self.new }
+        ensures point { OnOk result (point_of self.new ≡ behind self.old.sim.program (point_of self.old) (replicate step.now.times step.now.reading)) }
+        ensures count { OutCount (O.fault_count out.old) (O.fault_count out.new) result }
+        ensures whole { O.tells ≡ true → OnOk result (O.written out.new ≡ O.written out.old ++ lines_behind self.old (replicate step.now.times step.now.reading)) }
+        ensures part { O.tells ≡ true → (front : List ℕ) × (rest : List ℕ) × (lines_behind self.old (replicate step.now.times step.now.reading) ≡ front ++ rest) × (O.written out.new ≡ O.written out.old ++ front) }
+    {
+        for _ in 0..step.times {
+            self.cycle(alloc, out, &step.reading)?;
+        }
+        Ok(())
+    }
+}
+
+/// The bytes of a trace's EEPROM.
+fn eeprom(trace: &Trace, n: &Names) -> [u8; 512]
+    requires { IsTraceOf n.now trace.now }
+    ensures { (k : ℕ) → slice_index_or result k 0 ≡ eeprom_of trace.now k }
+{
+    let mut bytes = [0xff; 512];
+    bytes.copy_from_slice(trace.eeprom.as_slice());
+    bytes
+}
+
+/// Runs a program over a trace from its start, and writes a line for each cycle: what the names and the devices show, and
+/// the duty of the PWM where it is told to. A fault writes a front of the lines. Nothing is kept of a cycle but the state.
+pub fn run_trace<O: Out>(
+    alloc: Global,
+    out: &mut O,
+    names: &Names,
+    shows_duty: bool,
+    program: IntProgram,
+    trace: &Trace,
+) -> Result<(), FileFault>
+    requires program { IsProgramOf names.now program }
+    requires trace { IsTraceOf names.now trace.now }
+    ensures count { OutCount (O.fault_count out.old) (O.fault_count out.new) result }
+    ensures whole { O.tells ≡ true → OnOk result (O.written out.new ≡ O.written out.old ++ run_lines shows_duty names.now program trace.now) }
+    ensures part { O.tells ≡ true → (front : List ℕ) × (rest : List ℕ) × (run_lines shows_duty names.now program trace.now ≡ front ++ rest) × (O.written out.new ≡ O.written out.old ++ front) }
+{
+    let sim = Sim::new(alloc, program, &eeprom(trace, names))?;
+    let mut run = Run {
+        names,
+        shows_duty,
+        sim,
+        passed: 0,
+    };
+    for step in trace.steps.as_slice() {
+        run.step(alloc, out, step)?;
+    }
+    Ok(())
+}
+
+#[cfg(test)]
+mod tests {
+    use super::*;
+    use int_code::op::{BitDest, BitSource, IntOp};
+    use int_code::well_formed::well_formed;
+    use ladder_trace::trace::read_trace;
+    use ladder_tree::names::NameList;
+    use ld_base::list::List;
+    use ld_base::mem_out::MemOut;
+    use std::alloc::AllocError;
+    use std::test::Fail;
+
+    fn one_name(alloc: Global, name: &[u8]) -> Result<NameList, AllocError> {
+        let mut names = List::new(alloc);
+        names.push(List::from_vec(name.to_vec(alloc)?))?;
+        Ok(names)
+    }
+
+    fn names(alloc: Global) -> Result<Names, AllocError> {
+        Ok(Names {
+            inputs: one_name(alloc, b"Xstart")?,
+            outputs: one_name(alloc, b"Ymotor")?,
+            relays: List::new(alloc),
+            variables: one_name(alloc, b"cycles")?,
+            analog: List::new(alloc),
+            persistent: one_name(alloc, b"cycles")?,
+            memories: 0,
+        })
+    }
+
+    /// The output y0 follows the input x0. The variable v0 counts cycles.
+    fn program(alloc: Global) -> Result<IntProgram, AllocError> {
+        let ops = vec![in alloc;
+            IntOp::Cpy {
+                b: BitDest::Y(0),
+                s: BitSource::X(0)
+            },
+            IntOp::Inc { v: 0 },
+        ]?;
+        Ok(IntProgram {
+            ops: List::from_vec(ops),
+            inputs: 1,
+            outputs: 1,
+            analogs: 0,
+            variables: 1,
+            kept_bits: 0,
+            bits: 0,
+            persistent: 1,
+            starts: List::from_vec(vec![in alloc; -1]?),
+        })
+    }
+
+    /// Whether a program has the sizes of the names.
+    fn is_program(names: &Names, p: &IntProgram) -> bool
+        ensures { result ≡ true → IsProgramOf names.now p.now }
+    {
+        well_formed(p)
+            && p.persistent <= 256
+            && p.ops.len() < 1_000_000
+            && names.inputs.len() == p.inputs as usize
+            && names.outputs.len() == p.outputs as usize
+            && names.analog.len() == p.analogs as usize
+            && names.variables.len() == p.variables as usize
+            && names.relays.len() <= p.bits as usize
+    }
+
+    /// Runs the program over a trace. Says whether the output failed.
+    fn fails(
+        alloc: Global,
+        out: &mut MemOut,
+        shows_duty: bool,
+        text: &str,
+    ) -> Result<Option<bool>, Fail> {
+        let names = names(alloc)?;
+        let program = program(alloc)?;
+        let trace = read_trace(alloc, &names, text.as_bytes())?;
+        if !is_program(&names, &program) {
+            return Ok(None);
+        }
+        match run_trace(alloc, out, &names, shows_duty, program, &trace) {
+            Ok(()) => Ok(Some(false)),
+            Err(FileFault::Failed) => Ok(Some(true)),
+            Err(FileFault::Memory(e)) => Err(Fail::from(e)),
+        }
+    }
+
+    #[test]
+    fn writes_lines(rt: HostRuntime) -> Result<(), Fail> {
+        let two_steps = "2: Xstart=1\nXstart=0\n";
+        // the trace, whether the duty is shown, the write that fails, and what is written
+        let rows = [
+            (
+                two_steps,
+                false,
+                0,
+                "1 Ymotor=1 cycles=0 ee=ffff\n2 Ymotor=1 cycles=1 ee=ffff\n3 Ymotor=0 cycles=2 ee=ffff\n",
+            ),
+            (
+                "eeprom 2a01\nXstart=0\nXstart=1\n",
+                true,
+                0,
+                "1 Ymotor=0 cycles=0 pwm=0 ee=2a01\n2 Ymotor=1 cycles=1 pwm=0 ee=2a01\n",
+            ),
+            (two_steps, false, 2, "1 Ymotor=1 cycles=0 ee=ffff\n"),
+            (two_steps, false, 1, ""),
+        ];
+        for (text, shows_duty, failing, lines) in rows {
+            let mut out = MemOut::new(rt.alloc());
+            out.fail_at(failing)?;
+            let failed = fails(rt.alloc(), &mut out, shows_duty, text)?;
+            assert_eq!(rt; failed, Some(failing != 0), "at {failing}");
+            assert_eq!(rt; out.bytes(), lines.as_bytes(), "at {failing}");
+        }
+        Ok(())
+    }
+}
