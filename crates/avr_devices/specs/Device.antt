@@ -7,7 +7,7 @@ use Rattle.avr_devices.specs.declared.devices.SerialPort.{SerialPort}
 use Rattle.avr_devices.specs.declared.devices.Eeprom.{Eeprom}
 use Rattle.avr_devices.specs.declared.devices.Conversion.{Conversion}
 use Rattle.avr_devices.specs.declared.devices.Conversion.TheVariants.{Idle, Channel, Unsupported}
-use Rattle.avr_devices.specs.Bits.{bit_of, as_bit}
+use Rattle.chip_tables.specs.Bits.{bit_of, as_bit}
 
 -- a port by its number: A is 0
 abbrev pub port_of : AvrDevices → ℕ → AvrPort

@@ -3,7 +3,7 @@ use Rattle.std.specs.Prelude.{ℕ, ◌*◌, ◌/◌, ◌%◌, if◌then◌else�
 use Rattle.avr_devices.specs.declared.devices.AvrDevices.{AvrDevices}
 use Rattle.avr_devices.specs.declared.io_space.IoRegister.{IoRegister}
 use Rattle.avr_devices.specs.declared.io_space.IoRegister.TheVariants.{Adcl, Adch, Adcsra, Admux, Ubrrl, Ucsrb, Ucsra, Udr, Pind, Ddrd, Portd, Pinc, Ddrc, Portc, Pinb, Ddrb, Portb, Pina, Ddra, Porta, Eedr, Eearl, Eearh, Ubrrh, Ocr2, Tccr2, Ocr1al, Ocr1ah, Tccr1b, Tccr1a, Tifr}
-use Rattle.avr_devices.specs.Bits.{as_bit}
+use Rattle.chip_tables.specs.Bits.{as_bit}
 use Rattle.avr_devices.specs.Device.{pins, received, serial_status, converter_status, is_converting, is_serial_on}
 
 -- the registers that are the processor's, and those that are absent, are no device's

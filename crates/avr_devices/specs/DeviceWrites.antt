@@ -5,7 +5,7 @@ use Rattle.avr_devices.specs.declared.devices.Converter.{Converter}
 use Rattle.avr_devices.specs.declared.devices.CycleTimer.{CycleTimer}
 use Rattle.avr_devices.specs.declared.io_space.IoRegister.{IoRegister}
 use Rattle.avr_devices.specs.declared.io_space.IoRegister.TheVariants.{Adcsra, Admux, Ubrrl, Ucsrb, Ucsra, Udr, Ddrd, Portd, Ddrc, Portc, Ddrb, Portb, Ddra, Porta, Eedr, Eearl, Eearh, Ubrrh, Ocr2, Tccr2, Ocr1al, Ocr1ah, Tccr1b, Tccr1a, Tifr}
-use Rattle.avr_devices.specs.Bits.{bit_of}
+use Rattle.chip_tables.specs.Bits.{bit_of}
 use Rattle.avr_devices.specs.Device.{sent_by, is_serial_on, conversion_by, eeprom_address}
 
 -- ADCSRA: a write with the start bit 6 set is a start, also while a conversion goes on

@@ -1,7 +1,7 @@
-pub mod Bits
+-- what the devices do; `Device` says what they are set to
 pub mod Device
-pub mod DevicePolls
+pub mod IoSpace
 pub mod DeviceReads
 pub mod DeviceWrites
-pub mod IoSpace
+pub mod DevicePolls
 pub mod Reset

@@ -1,9 +1,10 @@
+//! The state of the devices.
+
 ghost use Rattle.std.specs.Prelude.{◌≡◌, ◌+◌, ◌*◌, ◌%◌, ◌<◌};
 ghost use Rattle.avr_devices.specs.Device.{port_of, is_serial_on, has_rate, converter_status, eeprom_address};
 ghost use Rattle.avr_devices.specs.Reset.{reset_devices, no_reading, input_port};
 
-use crate::bits::{as_bit, bit_of};
-use chip_tables::{BaudSetting, PinReading, Poll, Settings};
+use chip_tables::{BaudSetting, PinReading, Poll, Settings, as_bit, bit_of};
 
 /// The devices of the chip, and what they show in the current cycle.
 #[derive(Drop)]

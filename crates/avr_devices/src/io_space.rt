@@ -1,3 +1,5 @@
+//! The registers of the I/O space.
+
 ghost use Rattle.std.specs.Prelude.{◌≡◌};
 ghost use Rattle.avr_devices.specs.IoSpace.{register_at};
 

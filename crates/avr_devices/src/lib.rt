@@ -2,14 +2,12 @@
 //! project's programs need them.
 #![tactic(auto)]
 
-mod bits;
 mod devices;
 mod io_space;
 mod polls;
 mod reads;
 mod writes;
 
-pub use bits::{as_bit, bit_mask, bit_of};
 pub use devices::{
     Answer, AvrDevices, AvrPort, Conversion, Converter, CycleTimer, Eeprom, Modulator, SerialPort,
 };

@@ -1,3 +1,5 @@
+//! Questions to the devices that end a wait.
+
 ghost use Rattle.std.specs.Prelude.{◌≡◌, slice_index};
 ghost use Rattle.avr_devices.specs.Device.{is_timing};
 ghost use Rattle.avr_devices.specs.DevicePolls.{cycle_answer, cycle_asked, converter_answer, converter_asked, result_of};

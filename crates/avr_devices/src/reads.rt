@@ -1,10 +1,12 @@
+//! What the device registers read as.
+
 ghost use Rattle.std.specs.Prelude.{◌≡◌, unwrap_or};
 ghost use Rattle.avr_devices.specs.Device.{pins, received, serial_status, is_converting, eeprom_status};
 ghost use Rattle.avr_devices.specs.DeviceReads.{device_byte, byte_taken};
 
-use crate::bits::as_bit;
 use crate::devices::{AvrDevices, AvrPort, Conversion, converter_status};
 use crate::io_space::IoRegister;
+use chip_tables::as_bit;
 
 impl AvrDevices {
     /// What a device register reads as; 0 for the processor's registers.
@@ -46,7 +48,8 @@ impl AvrDevices {
             IoRegister::Tccr1b => self.timer.control_b,
             IoRegister::Tccr1a => self.timer.control_a,
             IoRegister::Tifr => as_bit(self.timer.flag) * 16,
-            _ => 0,
+            IoRegister::Eecr | IoRegister::Spl | IoRegister::Sph | IoRegister::Sreg => 0,
+            IoRegister::Absent => 0,
         }
     }
 

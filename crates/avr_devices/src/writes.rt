@@ -1,10 +1,12 @@
+//! What writes to the device registers do.
+
 ghost use Rattle.std.specs.Prelude.{◌≡◌};
 ghost use Rattle.avr_devices.specs.Device.{sent_by, conversion_by};
 ghost use Rattle.avr_devices.specs.DeviceWrites.{device_written, sent_to, converter_written, byte_sent, rate_high_written, flags_written, eeprom_stored, eeprom_fetched, eeprom_written};
 
-use crate::bits::bit_of;
 use crate::devices::{AvrDevices, Conversion, Converter, CycleTimer};
 use crate::io_space::IoRegister;
+use chip_tables::bit_of;
 
 impl AvrDevices {
     /// A device register takes a byte; gives the byte that is sent by that.
@@ -40,7 +42,10 @@ impl AvrDevices {
             IoRegister::Tccr1b => self.timer.control_b = x,
             IoRegister::Tccr1a => self.timer.control_a = x,
             IoRegister::Tifr => self.timer.write_flags(x),
-            _ => {}
+            IoRegister::Adcl | IoRegister::Adch => {}
+            IoRegister::Pina | IoRegister::Pinb | IoRegister::Pinc | IoRegister::Pind => {}
+            IoRegister::Eecr | IoRegister::Spl | IoRegister::Sph | IoRegister::Sreg => {}
+            IoRegister::Absent => {}
         }
         None
     }

@@ -5,7 +5,7 @@ use Rattle.avr_mach.specs.declared.insn.AvrInsn.{AvrInsn}
 use Rattle.avr_mach.specs.declared.insn.AvrInsn.TheVariants.{Add, Adc, Sub, Sbc, Cp, Cpc, And, Eor, Or, Cpi, Com, Inc, Lsr, Ror, Dec}
 use Rattle.avr_mach.specs.declared.state.AvrState.{AvrState}
 use Rattle.avr_mach.specs.declared.state.Flow.TheVariants.{Next}
-use Rattle.avr_devices.specs.Bits.{bit_of, as_bit}
+use Rattle.chip_tables.specs.Bits.{bit_of, as_bit}
 use Rattle.avr_mach.specs.State.{After, after, reg, with_reg}
 use Rattle.avr_mach.specs.Control.{control}
 

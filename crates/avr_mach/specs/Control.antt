@@ -7,7 +7,7 @@ use Rattle.avr_mach.specs.declared.insn.AvrInsn.{AvrInsn}
 use Rattle.avr_mach.specs.declared.insn.AvrInsn.TheVariants.{Brbs, Brbc, Bset, Bclr, Rjmp, Rcall, Jmp, Call, Ret, Sbrc, Sbrs, Lds, Sts}
 use Rattle.avr_mach.specs.declared.state.AvrState.{AvrState}
 use Rattle.avr_mach.specs.declared.state.Flow.TheVariants.{Next, Skip, To}
-use Rattle.avr_devices.specs.Bits.{bit_of}
+use Rattle.chip_tables.specs.Bits.{bit_of}
 use Rattle.avr_mach.specs.Memory.{ram_byte, with_ram}
 use Rattle.avr_mach.specs.State.{After, after, reg, flag, with_flag}
 use Rattle.avr_mach.specs.Transfer.{transfer}

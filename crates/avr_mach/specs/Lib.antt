@@ -1,10 +1,12 @@
+-- what the machine does
+pub mod Step
+pub mod Insn
+pub mod Words
+pub mod State
 pub mod Arithmetic
 pub mod Control
-pub mod Groups
-pub mod Insn
+pub mod Transfer
 pub mod Memory
 pub mod Reset
-pub mod State
-pub mod Step
-pub mod Transfer
-pub mod Words
+-- what only the code needs
+pub mod Groups

@@ -6,7 +6,7 @@ use Rattle.avr_devices.specs.declared.devices.Answer.{Answer}
 use Rattle.avr_mach.specs.declared.state.AvrState.{AvrState}
 use Rattle.avr_devices.specs.declared.io_space.IoRegister.{IoRegister}
 use Rattle.avr_devices.specs.declared.io_space.IoRegister.TheVariants.{Adcsra, Udr, Eecr, Tifr, Spl, Sph, Sreg}
-use Rattle.avr_devices.specs.Bits.{bit_of}
+use Rattle.chip_tables.specs.Bits.{bit_of}
 use Rattle.avr_devices.specs.Device.{eeprom_status}
 use Rattle.avr_devices.specs.DeviceReads.{device_byte, byte_taken}
 use Rattle.avr_devices.specs.DeviceWrites.{device_written, sent_to, eeprom_written}

@@ -5,7 +5,7 @@ use Rattle.chip_tables.specs.declared.outside.Poll.TheVariants.{NoPoll}
 use Rattle.avr_mach.specs.declared.state.AvrState.{AvrState}
 use Rattle.avr_mach.specs.declared.state.Acted.{Acted}
 use Rattle.avr_mach.specs.declared.state.Flow.{Flow}
-use Rattle.avr_devices.specs.Bits.{bit_of, as_bit}
+use Rattle.chip_tables.specs.Bits.{bit_of, as_bit}
 
 -- the machine after an instruction, and what the instruction did beside that
 pub record After : Type 0 where

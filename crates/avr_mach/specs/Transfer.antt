@@ -7,7 +7,7 @@ use Rattle.avr_mach.specs.declared.insn.AvrInsn.TheVariants.{Mov, Ldi, In, Out, 
 use Rattle.avr_mach.specs.declared.state.AvrState.{AvrState}
 use Rattle.avr_devices.specs.declared.io_space.IoRegister.{IoRegister}
 use Rattle.avr_mach.specs.declared.state.Flow.TheVariants.{Next, Skip}
-use Rattle.avr_devices.specs.Bits.{bit_of}
+use Rattle.chip_tables.specs.Bits.{bit_of}
 use Rattle.avr_devices.specs.DeviceWrites.{sent_to}
 use Rattle.avr_devices.specs.IoSpace.{register_at}
 use Rattle.avr_mach.specs.Memory.{Read, plain_read, in_read, bit_read, data_read, lds_read, io_written, data_written, sent_at}
@@ -22,6 +22,18 @@ loaded got d cycles =
 abbrev pub stored : AvrState → IoRegister → ℕ → ℕ → After
 stored m r x cycles =
     record { state = io_written m r x cycles; acted = act Next cycles NoPoll (sent_to m.devices r x) }
+
+-- a register is read, and takes the byte back with one bit cleared
+abbrev pub bit_cleared : AvrState → IoRegister → ℕ → After
+bit_cleared m r b =
+    let got = plain_read m r in
+    stored got.state r (bit_and got.answer.value (255 - 2 ^ b)) 2
+
+-- the same with the bit set
+abbrev pub bit_made : AvrState → IoRegister → ℕ → After
+bit_made m r b =
+    let got = plain_read m r in
+    stored got.state r (bit_or got.answer.value (2 ^ b)) 2
 
 -- skips where the bit that was read is as wanted
 abbrev pub skip_where : Read → ℕ → Bool → After
@@ -47,12 +59,8 @@ transfer env (Mov d r) m = after (with_reg m d (reg m r)) Next 1
 transfer env (Ldi d k) m = after (with_reg m d k) Next 1
 transfer env (In d a) m = loaded (in_read env m (register_at a)) d 1
 transfer env (Out a r) m = stored m (register_at a) (reg m r) 1
-transfer env (Cbi a b) m =
-    let got = plain_read m (register_at a) in
-    stored got.state (register_at a) (bit_and got.answer.value (255 - 2 ^ b)) 2
-transfer env (Sbi a b) m =
-    let got = plain_read m (register_at a) in
-    stored got.state (register_at a) (bit_or got.answer.value (2 ^ b)) 2
+transfer env (Cbi a b) m = bit_cleared m (register_at a) b
+transfer env (Sbi a b) m = bit_made m (register_at a) b
 transfer env (Sbic a b) m = skip_where (bit_read env m (register_at a)) b false
 transfer env (Sbis a b) m = skip_where (bit_read env m (register_at a)) b true
 transfer env (Lds d address) m = loaded (lds_read env m address) d 2

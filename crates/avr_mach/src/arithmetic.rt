@@ -1,3 +1,5 @@
+//! Arithmetic, logic and comparisons, with their flags.
+
 ghost use Rattle.std.specs.Prelude.{◌≡◌, ◌<◌};
 ghost use Rattle.avr_mach.specs.Arithmetic.{exec, differ, with_sum, difference, with_compared, with_difference, with_result, with_shifted};
 ghost use Rattle.avr_mach.specs.Control.{HasRoom};
@@ -6,8 +8,7 @@ ghost use Rattle.avr_mach.specs.State.{act, reg};
 
 use crate::insn::AvrInsn;
 use crate::state::{Acted, AvrState, Flow};
-use avr_devices::{as_bit, bit_of};
-use chip_tables::{Env, Poll};
+use chip_tables::{Env, Poll, as_bit, bit_of};
 
 impl AvrState {
     /// What an instruction at a place does, but for setting the place.

@@ -1,3 +1,5 @@
+//! Branches, jumps, calls, skips and writes to a flag, and why an instruction may have no step.
+
 ghost use Rattle.std.specs.Prelude.{◌≡◌, ◌+◌, ◌<◌, ◌≤◌, ◌^◌, IfNone};
 ghost use Rattle.avr_mach.specs.Control.{control, near, branch, skip_if, with_call, return_place, call_obstacle, return_obstacle, obstacle, HasRoom};
 ghost use Rattle.avr_mach.specs.Insn.{FieldsFit};
@@ -7,8 +9,7 @@ ghost use Rattle.avr_mach.specs.declared.state.AvrState.{AvrState};
 use crate::arithmetic::next;
 use crate::insn::AvrInsn;
 use crate::state::{Acted, AvrState, Flow};
-use avr_devices::bit_of;
-use chip_tables::{Env, Poll, StuckCause};
+use chip_tables::{Env, Poll, StuckCause, bit_of};
 
 impl AvrState {
     /// Why the instruction has no step here, if it has none.

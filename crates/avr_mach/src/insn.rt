@@ -1,3 +1,5 @@
+//! Instructions with their fields, and their words.
+
 ghost use Rattle.std.specs.Prelude.{◌≡◌, ℕ, ◌+◌, ◌-◌, ◌*◌, ◌/◌, ◌%◌, ◌^◌, ◌<◌, ◌≤◌, true, IfSome};
 ghost use Rattle.avr_mach.specs.declared.insn.AvrInsn.{AvrInsn};
 ghost use Rattle.avr_mach.specs.Groups.{is_of_flow, is_of_data};
@@ -10,7 +12,7 @@ use insn_rows::{AvrKind, avr_kind};
 /// `r` are registers, `a` is an I/O address, `b` a bit of a byte, `s` a bit of the status register,
 /// `q` a displacement, and `k` a constant of a byte or, at a branch, the two's complement of how many
 /// words it goes on.
-#[derive(Clone, Copy, Debug, PartialEq, Eq)]
+#[derive(Clone, Copy)]
 pub enum AvrInsn {
     /// Adds a register.
     Add { d: u8, r: u8 },
@@ -104,7 +106,7 @@ pub fn decode(word: u16, next: u16) -> Option<AvrInsn>
     Some(with_fields(kind, word, next))
 }
 
-// The instruction of a kind, with the fields that it has in its words.
+/// The instruction of a kind, with the fields that it has in its words.
 fn with_fields(kind: AvrKind, w: u16, next: u16) -> AvrInsn
     ensures value { result ≡ insn_of kind w next }
     ensures fits { FieldsFit result }
@@ -140,7 +142,7 @@ fn with_fields(kind: AvrKind, w: u16, next: u16) -> AvrInsn
     }
 }
 
-// The same for a kind with a bit of the status register or a place of program flash.
+/// The same for a kind with a bit of the status register or a place of program flash.
 fn flow_insn(kind: AvrKind, w: u16, next: u16) -> AvrInsn
     requires { is_of_flow kind ≡ true }
     ensures value { result ≡ insn_of kind w next }
@@ -163,7 +165,7 @@ fn flow_insn(kind: AvrKind, w: u16, next: u16) -> AvrInsn
     }
 }
 
-// The same for a kind with a bit of a byte, an I/O address, a data address or a displacement.
+/// The same for a kind with a bit of a byte, an I/O address, a data address or a displacement.
 fn data_insn(kind: AvrKind, w: u16, next: u16) -> AvrInsn
     requires { is_of_data kind ≡ true }
     ensures value { result ≡ insn_of kind w next }
@@ -304,7 +306,7 @@ fn first_word(i: &AvrInsn) -> u16
     }
 }
 
-// A word with a register and another register or an I/O address.
+/// A word with a register and another register or an I/O address.
 fn two_regs(bits: u16, d: u8, r: u8) -> u16
     requires bits { bits < 48000 }
     requires d { d < 32 }
@@ -341,46 +343,4 @@ fn displaced(bits: u16, d: u8, q: u8) -> u16
         + u16::from(q / 8 % 4) * 1024
         + u16::from(d) * 16
         + u16::from(q % 8))
-}
-
-#[cfg(test)]
-mod tests {
-    use super::*;
-
-    // Words of the AVR Instruction Set Manual, with fields that are neither all 0 nor all 1.
-    #[test]
-    fn reads_and_writes_the_words_of_the_manual(rt: HostRuntime) {
-        let rows = [
-            ([0x0000, 0x0000], AvrInsn::Nop),
-            ([0x0f9a, 0x0000], AvrInsn::Add { d: 25, r: 26 }),
-            ([0xe70f, 0x0000], AvrInsn::Ldi { d: 16, k: 0x7f }),
-            ([0x9503, 0x0000], AvrInsn::Inc { d: 16 }),
-            ([0xf7f1, 0x0000], AvrInsn::Brbc { s: 1, k: 126 }),
-            ([0xcffe, 0x0000], AvrInsn::Rjmp { k: 4094 }),
-            ([0x940e, 0x1234], AvrInsn::Call { place: 0x1234 }),
-            ([0x95fd, 0x0001], AvrInsn::Jmp { place: 0x3f_0001 }),
-            ([0xbf8f, 0x0000], AvrInsn::Out { a: 63, r: 24 }),
-            ([0x9a95, 0x0000], AvrInsn::Sbi { a: 18, b: 5 }),
-            ([0xfd86, 0x0000], AvrInsn::Sbrc { r: 24, b: 6 }),
-            (
-                [0x9300, 0x0060],
-                AvrInsn::Sts {
-                    address: 0x60,
-                    r: 16,
-                },
-            ),
-            ([0xa99f, 0x0000], AvrInsn::Ldd { d: 25, q: 55 }),
-            ([0x930d, 0x0000], AvrInsn::St { r: 16 }),
-        ];
-        for (words, insn) in rows {
-            let found = decode(words[0], words[1]);
-            assert_eq!(rt; found, Some(insn));
-            if let Some(found) = found {
-                assert_eq!(rt; encode(&found), words, "{insn:?}");
-            }
-        }
-        assert_eq!(rt; decode(0xffff, 0x0000), None);
-        assert_eq!(rt; size_of(&AvrInsn::Nop), 1);
-        assert_eq!(rt; size_of(&AvrInsn::Lds { d: 1, address: 2 }), 2);
-    }
 }

@@ -11,6 +11,3 @@ mod transfer;
 
 pub use insn::{AvrInsn, decode, encode, size_of};
 pub use state::{Acted, AvrState, Flow};
-
-#[cfg(test)]
-mod tests;

@@ -1,11 +1,13 @@
+//! The I/O space and the data memory.
+
 ghost use Rattle.std.specs.Prelude.{◌≡◌, ◌+◌, ◌-◌, ◌<◌};
 ghost use Rattle.avr_mach.specs.Memory.{io_byte, after_reading, plain_read, in_read, bit_read, lds_register, io_written, with_ram, data_read, lds_read, data_written, sent_at};
 ghost use Rattle.avr_devices.specs.DevicePolls.{answer};
 ghost use Rattle.avr_devices.specs.DeviceWrites.{sent_to};
 
 use crate::state::AvrState;
-use avr_devices::{Answer, IoRegister, bit_of, register_at};
-use chip_tables::{Env, Poll};
+use avr_devices::{Answer, IoRegister, register_at};
+use chip_tables::{Env, Poll, bit_of};
 
 impl AvrState {
     fn io_byte(&self, register: IoRegister) -> u8

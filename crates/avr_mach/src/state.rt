@@ -1,11 +1,13 @@
+//! The state of the machine.
+
 ghost use Rattle.std.specs.Prelude.{◌≡◌, ◌+◌, ◌*◌, ◌/◌, ◌%◌, ◌^◌, ◌<◌, slice_index};
 ghost use Rattle.avr_devices.specs.Device.{port_of};
 ghost use Rattle.avr_mach.specs.Memory.{ram_byte};
 ghost use Rattle.avr_mach.specs.Reset.{reset_state};
 ghost use Rattle.avr_mach.specs.State.{flag, with_flag, sreg, with_sreg, pointer, with_pointer};
 
-use avr_devices::{AvrDevices, as_bit, bit_of};
-use chip_tables::{Poll, Settings};
+use avr_devices::AvrDevices;
+use chip_tables::{Poll, Settings, as_bit, bit_of};
 
 /// The registers, the memories, the flags and the devices of an ATmega16 between two instructions.
 #[derive(Drop)]

@@ -1,3 +1,5 @@
+//! One step of the machine.
+
 ghost use Rattle.std.specs.Prelude.{◌≡◌, ◌+◌, ◌<◌, ◌^◌, IfSome};
 ghost use Rattle.chip_tables.specs.Step.{OnStuck};
 ghost use Rattle.avr_mach.specs.Insn.{FieldsFit};
@@ -44,7 +46,7 @@ impl AvrState {
         })
     }
 
-    // Comes to the place after an instruction; `next` is that of the one that follows it.
+    /// Comes to the place after an instruction; `next` is that of the one that follows it.
     fn settle(&mut self, flash: &[u16], next: u32, acted: Acted) -> Went
         requires next { next < 8195 }
         requires cycles { acted.cycles < 8 }

@@ -22,7 +22,7 @@ struct Counts {
     agreeing: u64,
 }
 
-// Tries each line of the input.
+/// Tries each line of the input.
 fn count(rt: &(impl Input + Print + AllocGlobal)) -> io::Result<Counts> {
     let mut counts = Counts {
         all: 0,

@@ -1,3 +1,5 @@
+//! One vector: the machine before and after a step.
+
 ghost use Rattle.std.specs.Prelude.{◌<◌, IfSome};
 
 use avr_devices::register_at;
@@ -108,7 +110,7 @@ fn byte(text: &str) -> Option<u8> {
     u8::from_str_radix(text, 16).ok()
 }
 
-// The SRAM that a seed gives.
+/// The SRAM that a seed gives.
 fn filled(seed: u8) -> [u8; 1024] {
     let mut sram = [0; 1024];
     for (i, byte) in sram.iter_mut().enumerate() {
@@ -117,7 +119,7 @@ fn filled(seed: u8) -> [u8; 1024] {
     sram
 }
 
-// The registers from their digits.
+/// The registers from their digits.
 fn registers(digits: &str) -> Option<[u8; 32]> {
     let digits = digits.as_bytes();
     if digits.len() != 64 {

@@ -2,7 +2,7 @@
 use Rattle.std.proofs.Common.{◌≡◌, ℕ, ◌<◌, Bool, true, false, ◌&&◌, cond, List, [], ◌∷◌, length, get_or, Option, Some, None, refl, sym, ap, subst, ◌∙◌, arith}
 use Rattle.std.specs.Prelude.{nat_lt, find, option_map, ◌==◌, IfSome}
 use Rattle.std.specs.List.{list_all, position, position_or_len}
-use Rattle.std.proofs.lemmas.Bool.{false≢true, eqb-true, ltb-true}
+use Rattle.std.proofs.lemmas.Bool.{and_parts, false≢true, eqb-true, ltb-true}
 use Rattle.std.proofs.lemmas.Bool.Decides.{nat_tests}
 use Rattle.std.proofs.lemmas.List.Sums.{passes_at_first}
 use Rattle.chip_tables.specs.declared.target.Target.{Target}
@@ -11,16 +11,12 @@ use Rattle.chip_tables.specs.declared.pins.PinRow.{PinRow}
 use Rattle.chip_tables.specs.declared.pins.PortBit.{PortBit}
 use Rattle.chip_tables.specs.Pins.{io_pins, is_at, port_bit_of, port_bit_at, port_count, analog_pins, channel_at}
 
-both_hold : (a b : Bool) → (a && b) ≡ true → (a ≡ true) × (b ≡ true)
-both_hold true b t = (refl, t)
-both_hold false b t = absurd (false≢true t)
-
 -- an element that is found passes each test that all elements pass
 found_by : {X : Type 0} (p good : X → Bool) (x y : X) (ys : List X) (b : Bool) → p y ≡ b → (find p ys ≡ Some x → list_all good ys ≡ true → (p x ≡ true) × (good x ≡ true)) → cond b (Some y) (find p ys) ≡ Some x → (good y && list_all good ys) ≡ true → (p x ≡ true) × (good x ≡ true)
 found_by p good x y ys true e later h t =
     let same : y ≡ x = cc in
-    (ap p (sym same) ∙ e, ap good (sym same) ∙ (both_hold _ _ t).0)
-found_by p good x y ys false e later h t = later h (both_hold _ _ t).1
+    (ap p (sym same) ∙ e, ap good (sym same) ∙ (and_parts _ _ t).0)
+found_by p good x y ys false e later h t = later h (and_parts _ _ t).1
 
 found : {X : Type 0} (p good : X → Bool) (xs : List X) (x : X) → find p xs ≡ Some x → list_all good xs ≡ true → (p x ≡ true) × (good x ≡ true)
 found p good [] x h t =
@@ -62,8 +58,8 @@ of_row target pin r h =
     let port = nat_lt r.port (port_count target) in
     let bit = nat_lt r.bit 8 in
     let carrier = pin_with (io_pins target) (port_bit_of r) in
-    let tests = both_hold (port && bit) (is_pin r.pin carrier) passed.1 in
-    let within = both_hold port bit tests.0 in
+    let tests = and_parts (port && bit) (is_pin r.pin carrier) passed.1 in
+    let within = and_parts port bit tests.0 in
     record {
       port = ltb-true r.port (port_count target) within.0;
       bit = ltb-true r.bit 8 within.1;

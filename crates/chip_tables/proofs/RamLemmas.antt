@@ -2,7 +2,7 @@
 use Rattle.std.proofs.Common.{◌≡◌, ℕ, ◌+◌, ◌-◌, ◌<◌, ◌≤◌, Bool, true, false, ◌&&◌, ◌||◌, cond, List, [], ◌∷◌, Option, Some, None, refl, sym, ap, ◌∙◌, arith}
 use Rattle.std.specs.Prelude.{nat_lt, nat_le, IfSome}
 use Rattle.std.specs.List.{list_any}
-use Rattle.std.proofs.lemmas.Bool.{false≢true, ltb-true, leb-true}
+use Rattle.std.proofs.lemmas.Bool.{and_parts, ltb-true, leb-true}
 use Rattle.std.proofs.lemmas.Bool.Decides.{nat_tests}
 use Rattle.chip_tables.specs.declared.target.Target.{Target}
 use Rattle.chip_tables.specs.declared.target.Target.TheVariants.{F628, F877, Mega16, Interp, AnsiC}
@@ -18,10 +18,6 @@ ascends floor (r ∷ rs) = (nat_le floor r.first && nat_le r.first r.last) && as
 abbrev index_of : List Range → ℕ → ℕ
 index_of [] a = 0
 index_of (r ∷ rs) a = cond (holds a r) (a - r.first) (size r + index_of rs a)
-
-both_hold : (a b : Bool) → (a && b) ≡ true → (a ≡ true) × (b ≡ true)
-both_hold true b t = (refl, t)
-both_hold false b t = absurd (false≢true t)
 
 in_range : (a : ℕ) (r : Range) → r.first ≤ a → a ≤ r.last → holds a r ≡ true
 in_range a r low high = grind (arith, nat_tests)
@@ -59,8 +55,8 @@ parts : (r : Range) (rs : List Range) (floor : ℕ) → ascends floor (r ∷ rs)
 parts r rs floor t =
     let low = nat_le floor r.first in
     let order = nat_le r.first r.last in
-    let both = both_hold (low && order) (ascends (r.last + 1) rs) t in
-    let ends = both_hold low order both.0 in
+    let both = and_parts (low && order) (ascends (r.last + 1) rs) t in
+    let ends = and_parts low order both.0 in
     (leb-true floor r.first ends.0, leb-true r.first r.last ends.1, both.1)
 
 not_below : (i n : ℕ) → nat_lt i n ≡ false → n ≤ i

@@ -1,5 +1,7 @@
-pub mod Cost
-pub mod Memory
+-- the facts of the chips, and what a step of a written machine is; proofs and code need nothing more
 pub mod Pins
+pub mod Memory
 pub mod Settings
+pub mod Cost
 pub mod Step
+pub mod Bits

@@ -1,5 +1,6 @@
 -- The settings of the timer, the serial port and the pulse-width modulator.
 use Rattle.std.specs.Prelude.{ℕ, ◌+◌, ◌-◌, ◌*◌, ◌/◌, ◌&&◌, ◌==◌, nat_le, nat_lt, Bool, true, false, if◌then◌else◌, List, [], ◌∷◌, Option, Some, None, find, option_map, option_and_then}
+use Rattle.std.specs.Option.{option_or}
 use Rattle.chip_tables.specs.declared.target.Target.{Target}
 use Rattle.chip_tables.specs.declared.target.Target.TheVariants.{F628, F877, Mega16, Interp, AnsiC}
 use Rattle.chip_tables.specs.declared.settings.Prescaler.{Prescaler}
@@ -50,14 +51,10 @@ abbrev pub divisor_within : ℕ → Bool → ℕ → Option BaudSetting
 divisor_within most fast ratio =
     if nat_le 1 ratio && nat_le ratio most then Some (record { divisor = ratio - 1; fast = fast }) else None
 
-abbrev pub or_else : Option BaudSetting → Option BaudSetting → Option BaudSetting
-or_else None other = other
-or_else (Some setting) other = Some setting
-
 -- PIC16F87X data sheet, "USART Baud Rate Generator": 16 clocks a bit where BRGH is set, else 64
 abbrev pub pic_baud : ℕ → ℕ → Option BaudSetting
 pic_baud hz baud =
-    or_else (divisor_within 256 true (nearest_ratio hz baud 16)) (divisor_within 256 false (nearest_ratio hz baud 64))
+    option_or (divisor_within 256 true (nearest_ratio hz baud 16)) (divisor_within 256 false (nearest_ratio hz baud 64))
 
 -- ATmega16 data sheet, "Internal Clock Generation": UBRR has 12 bits
 abbrev pub avr_baud : ℕ → ℕ → Option BaudSetting

@@ -1,3 +1,5 @@
+//! What costs, and what a cost is made of.
+
 /// What a part of a program is, as far as its cost goes.
 #[derive(Clone, Copy, Debug, PartialEq, Eq)]
 pub enum CostKind {

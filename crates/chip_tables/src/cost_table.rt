@@ -1,3 +1,5 @@
+//! The table of costs.
+
 ghost use Rattle.std.specs.Prelude.{◌≡◌};
 ghost use Rattle.chip_tables.specs.Cost.{row, row_of, cost_of};
 
@@ -25,14 +27,14 @@ pub fn cost(target: Target, kind: CostKind) -> Cost
     }
 }
 
-// A cell of the table: what counts once, and what counts for each place or entry.
+/// A cell of the table: what counts once, and what counts for each place or entry.
 #[derive(Clone, Copy)]
 struct CostCell {
     once: u32,
     each: u32,
 }
 
-// A row of the table: the words on each chip, the cycles and the operations.
+/// A row of the table: the words on each chip, the cycles and the operations.
 #[derive(Clone, Copy)]
 struct CostRow {
     f628: CostCell,
@@ -60,7 +62,7 @@ const TABLE: CostRow = CostRow {
     ops: CostCell { once: 4, each: 0 },
 };
 
-// A row whose costs count once.
+/// A row whose costs count once.
 fn fixed(f628: u32, f877: u32, mega16: u32, cycles: u32, ops: u32) -> CostRow
     ensures { result ≡ row f628 f877 mega16 cycles ops }
 {

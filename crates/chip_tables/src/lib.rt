@@ -1,6 +1,8 @@
-//! The facts of the chips as tables: pins, memories, settings of the devices, and costs.
+//! The facts of the chips as tables: pins, memories, settings of the devices, and costs; and what the written machines of all chips
+//! share: what a step meets and how it ends, and bits of a byte.
 #![tactic(auto)]
 
+mod bits;
 mod cost_kind;
 mod cost_table;
 mod memory;
@@ -9,6 +11,7 @@ mod pins;
 mod settings;
 mod target;
 
+pub use bits::{as_bit, bit_mask, bit_of};
 pub use cost_kind::{Cost, CostKind};
 pub use cost_table::cost;
 pub use memory::{eeprom_have, flash_words, ram_byte, ram_have};
@@ -18,6 +21,3 @@ pub use settings::{
     BaudSetting, PwmSetting, Settings, TimerSetting, baud_setting, pwm_setting, timer_setting,
 };
 pub use target::Target;
-
-#[cfg(test)]
-mod tests;

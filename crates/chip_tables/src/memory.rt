@@ -1,9 +1,11 @@
+//! The memories of each target.
+
 ghost use Rattle.std.specs.Prelude.{ℕ, ◌≡◌, ◌<◌, ◌↔◌, Some, None, IsSome, IfSome, sum_by};
 ghost use Rattle.chip_tables.specs.Memory.{ram_size, eeprom_size, flash_size, ram_ranges, ram_address, IsRam, byte_at, size};
 
 use crate::target::Target;
 
-// Addresses of data memory that follow one another, both ends among them.
+/// Addresses of data memory that follow one another, both ends among them.
 #[derive(Clone, Copy)]
 struct Range {
     first: u16,
@@ -72,7 +74,7 @@ const MEGA16_RAM: [Range; 1] = ranges! {
     0x60 0x41f,
 };
 
-// The address of byte `index` of the ranges one after the other.
+/// The address of byte `index` of the ranges one after the other.
 fn byte_in<const N: usize>(ranges: &[Range; N], index: u32) -> Option<u16>
     ensures { result ≡ byte_at ranges.now index }
 {

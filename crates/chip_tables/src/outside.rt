@@ -1,3 +1,5 @@
+//! What a chip's written machine meets at a step, and how a step ends.
+
 /// What the pins and the devices of a chip show in one cycle.
 #[derive(Clone, Copy, Debug, PartialEq, Eq)]
 pub struct PinReading {

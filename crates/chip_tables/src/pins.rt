@@ -1,3 +1,5 @@
+//! The pins of each chip.
+
 ghost use Rattle.std.specs.Prelude.{ℕ, ◌≡◌, ◌==◌, ◌<◌, Some, IfSome, position};
 ghost use Rattle.chip_tables.specs.Pins.{is_at, port_bit_in, port_bit_at, port_count, channel_at, rx_at, tx_at, pwm_at};
 
@@ -89,7 +91,7 @@ fn channel_of(inputs: &[u16; 8], pin: u16) -> Option<u8>
     }
 }
 
-// The place of the pin among the inputs.
+/// The place of the pin among the inputs.
 fn place_of<const N: usize>(inputs: &[u16; N], pin: u16) -> Option<usize>
     ensures value { result ≡ position (λ input. input == pin) inputs.now }
     ensures within { IfSome result (λ place. place < N) }

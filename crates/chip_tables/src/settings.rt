@@ -1,3 +1,5 @@
+//! The settings of the devices that a program needs.
+
 ghost use Rattle.std.specs.Prelude.{◌≡◌, ◌+◌, ◌*◌, ◌<◌, ◌≤◌, All};
 ghost use Rattle.chip_tables.specs.Settings.{timer_of, timer_among, ending_at, baud_of, divisor_within, nearest_ratio, pwm_of, lasting, pic_pwm_among, avr_pwm_among};
 
@@ -38,7 +40,7 @@ pub struct Settings {
     pub pwm: Option<PwmSetting>,
 }
 
-// A prescaler, and the control register's value that selects it.
+/// A prescaler, and the control register's value that selects it.
 #[derive(Clone, Copy)]
 struct Prescaler {
     ratio: u16,
@@ -79,7 +81,7 @@ const AVR_TIMER: [Prescaler; 5] = prescalers! {
     1024 0x0d,
 };
 
-// The first prescaler for which a cycle's ticks fit the timer's 16 bits, where there is a tick.
+/// The first prescaler for which a cycle's ticks fit the timer's 16 bits, where there is a tick.
 fn first_timer<const N: usize>(
     prescalers: &[Prescaler; N],
     clocks: u64,
@@ -101,7 +103,7 @@ fn first_timer<const N: usize>(
     None
 }
 
-// A count of so many ticks ends at one less.
+/// A count of so many ticks ends at one less.
 fn counting(control: u8, ticks: u64) -> Option<TimerSetting>
     requires { ticks ≤ 65536 }
     ensures { result ≡ ending_at control ticks }
@@ -134,7 +136,7 @@ pub fn baud_setting(target: Target, hz: u32, baud: u32) -> Option<BaudSetting>
     }
 }
 
-// The crystal over the rate and the clocks of a bit, rounded to the nearest whole.
+/// The crystal over the rate and the clocks of a bit, rounded to the nearest whole.
 fn nearest(hz: u32, baud: u32, clocks: u64) -> u64
     requires asked { 0 < baud }
     requires positive { 0 < clocks }
@@ -145,7 +147,7 @@ fn nearest(hz: u32, baud: u32, clocks: u64) -> u64
     (u64::from(hz) + clocks / 2 * rate) / (clocks * rate)
 }
 
-// The setting whose divisor register holds the ratio less one, where the register is wide enough.
+/// The setting whose divisor register holds the ratio less one, where the register is wide enough.
 fn divisor(most: u64, fast: bool, ratio: u64) -> Option<BaudSetting>
     requires { most ≤ 65536 }
     ensures { result ≡ divisor_within most fast ratio }
@@ -190,7 +192,7 @@ const AVR_PWM: [Prescaler; 7] = prescalers! {
     1024 0x6f,
 };
 
-// The first prescaler for which a PIC's period is at most 255 ticks, where it is 2 at least.
+/// The first prescaler for which a PIC's period is at most 255 ticks, where it is 2 at least.
 fn pic_period<const N: usize>(prescalers: &[Prescaler; N], hz: u32, freq: u32) -> Option<PwmSetting>
     requires ratios { All (λ p. 0 < p.ratio) prescalers.now }
     requires asked { 0 < freq }
@@ -205,7 +207,7 @@ fn pic_period<const N: usize>(prescalers: &[Prescaler; N], hz: u32, freq: u32) -
     None
 }
 
-// A period of so many ticks. Below 2 there is no duty between none and all.
+/// A period of so many ticks. Below 2 there is no duty between none and all.
 fn topped(control: u8, ticks: u64) -> Option<PwmSetting>
     requires { ticks ≤ 255 }
     ensures { result ≡ lasting control ticks }
@@ -219,7 +221,7 @@ fn topped(control: u8, ticks: u64) -> Option<PwmSetting>
     })
 }
 
-// The first prescaler for which the AVR's period of 256 ticks is no shorter than asked.
+/// The first prescaler for which the AVR's period of 256 ticks is no shorter than asked.
 fn avr_period<const N: usize>(prescalers: &[Prescaler; N], hz: u32, freq: u32) -> Option<PwmSetting>
     ensures { result ≡ avr_pwm_among prescalers.now hz freq }
 {

@@ -1,3 +1,5 @@
+//! The targets.
+
 /// What a ladder program is compiled for.
 #[derive(Clone, Copy, Debug, PartialEq, Eq)]
 pub enum Target {

@@ -1,7 +1,7 @@
 -- The test of two rows is right, and so is that of a table.
-use Rattle.std.proofs.Common.{◌≡◌, ℕ, zero, suc, ◌<◌, min, Bool, true, false, not, ◌&&◌, ◌||◌, eq-eqb, List, [], ◌∷◌, length, get_or, refl, sym, ap, ◌∙◌, arith, ◌==◌, bit_and}
+use Rattle.std.proofs.Common.{◌≡◌, ℕ, zero, suc, ◌<◌, min, Bool, true, false, not, ◌||◌, eq-eqb, List, [], ◌∷◌, length, get_or, refl, sym, ap, ◌∙◌, arith, ◌==◌, bit_and}
 use Rattle.std.specs.Cmp.Derive.{both_true}
-use Rattle.std.proofs.lemmas.Bool.{eqb-true}
+use Rattle.std.proofs.lemmas.Bool.{and_parts, eqb-true}
 use Rattle.std.proofs.lemmas.Nat.{or_comm}
 use Rattle.std.proofs.lemmas.Nat.Bits.{same_from_bits, bit_at_and, bit_at_or, bit_at-lt}
 use Rattle.std.proofs.lemmas.Nat.{and_comm, and_assoc}
@@ -35,10 +35,6 @@ sound ma ba mb bb w a b = (
 )
 
 -- cases of the tests
-pub both_hold : (a b : Bool) → (a && b) ≡ true → (a ≡ true) × (b ≡ true)
-both_hold true b t = (refl, t)
-both_hold false b t = absurd (false≢true t)
-
 all_hold : (a b c : Bool) → a ≡ true → b ≡ true → c ≡ true → (not a || (not b || not c)) ≡ false
 all_hold a b c p q r = cc (ap not p, q, r)
 
@@ -71,16 +67,16 @@ apart_tests a b h = by (are_apart a b) refl
 -- the test of a table is right
 one_of_all : (p : InsnRow → Bool) (rows : List InsnRow) (j : ℕ) (d : InsnRow) → list_all p rows ≡ true → j < length rows → p (get_or rows j d) ≡ true
 one_of_all p [] j d t within = absurd (omega arith)
-one_of_all p (row ∷ rows) zero d t within = (both_hold _ _ t).0
-one_of_all p (row ∷ rows) (suc j) d t within = one_of_all p rows j d (both_hold _ _ t).1 (omega arith)
+one_of_all p (row ∷ rows) zero d t within = (and_parts _ _ t).0
+one_of_all p (row ∷ rows) (suc j) d t within = one_of_all p rows j d (and_parts _ _ t).1 (omega arith)
 
 pub tests_all : (rows : List InsnRow) → all_apart rows ≡ true → (i j : ℕ) (d : InsnRow) → i < j → j < length rows → Apart (get_or rows i d) (get_or rows j d)
 tests_all [] t i j d lt within = absurd (omega arith)
 tests_all (row ∷ rows) t zero zero d lt within = absurd (omega arith)
 tests_all (row ∷ rows) t (suc i) zero d lt within = absurd (omega arith)
 tests_all (row ∷ rows) t zero (suc j) d lt within =
-    tests_apart row (get_or rows j d) (one_of_all (are_apart row) rows j d (both_hold _ _ t).0 (omega arith))
-tests_all (row ∷ rows) t (suc i) (suc j) d lt within = tests_all rows (both_hold _ _ t).1 i j d (omega arith) (omega arith)
+    tests_apart row (get_or rows j d) (one_of_all (are_apart row) rows j d (and_parts _ _ t).0 (omega arith))
+tests_all (row ∷ rows) t (suc i) (suc j) d lt within = tests_all rows (and_parts _ _ t).1 i j d (omega arith) (omega arith)
 
 first_of_all : (row : InsnRow) (rows : List InsnRow) → ((j : ℕ) → (d : InsnRow) → j < length rows → Apart row (get_or rows j d)) → list_all (are_apart row) rows ≡ true
 first_of_all row [] h = refl

@@ -2,19 +2,19 @@
 use Rattle.std.proofs.Common.{◌≡◌, ℕ, zero, suc, ◌+◌, ◌<◌, Bool, true, false, not, cond, List, [], ◌∷◌, length, get_or, Some, None, refl, ap, ◌∙◌, arith}
 use Rattle.std.proofs.Math.Numerals.{one-add}
 use Rattle.std.specs.List.{position, position_or_len}
-use Rattle.std.proofs.lemmas.Bool.{lt-ltb}
+use Rattle.std.proofs.lemmas.Bool.{and_parts, lt-ltb}
 use Rattle.std.specs.Prelude.{nat_lt}
 use Rattle.insn_rows.specs.declared.rows.InsnRow.{InsnRow}
 use Rattle.insn_rows.specs.Rows.{is_match, Apart, all_apart}
 use Rattle.std.proofs.lemmas.Option.{slice_get_within, get_or_from_slice_get}
 use Rattle.std.specs.Prelude.{AllPairs, IsTrue, slice_get}
-use Rattle.insn_rows.proofs.Apart.{tests_all, all_tests, both_hold}
+use Rattle.insn_rows.proofs.Apart.{tests_all, all_tests}
 
 pub only_place : (rows : List InsnRow) (w k : ℕ) (d : InsnRow) → all_apart rows ≡ true → k < length rows → is_match w (get_or rows k d) ≡ true → position_or_len (is_match w) rows ≡ k
 only_place [] w k d t within m = absurd (omega arith)
 only_place (row ∷ rows) w zero d t within m =
     ap (λ b. cond (not b) (1 + position_or_len (is_match w) rows) 0) m
-only_place (row ∷ rows) w (suc k) d t within m = by (is_match w row) refl (only_place rows w k d (both_hold _ _ t).1 (omega arith) m)
+only_place (row ∷ rows) w (suc k) d t within m = by (is_match w row) refl (only_place rows w k d (and_parts _ _ t).1 (omega arith) m)
   where
     by : (b : Bool) → is_match w row ≡ b → position_or_len (is_match w) rows ≡ k → position_or_len (is_match w) (row ∷ rows) ≡ suc k
     by true e rest = absurd (tests_all (row ∷ rows) t zero (suc k) d (omega arith) within w e m)

@@ -1,2 +1,3 @@
-pub mod Avr
+-- when a word is an instruction
 pub mod Rows
+pub mod Avr

@@ -1,3 +1,5 @@
+//! The AVR's table of instructions.
+
 ghost use Rattle.std.specs.Prelude.{◌≡◌, AllPairs, position, slice_get, option_and_then};
 ghost use Rattle.insn_rows.specs.Rows.{is_match, Apart};
 ghost use Rattle.insn_rows.specs.Avr.{avr_rows, avr_kind_of};
@@ -153,43 +155,12 @@ pub fn avr_kind(word: u16) -> Option<AvrKind>
     kind_of(&rows, &kinds, word)
 }
 
-// The instruction of the first row that the word matches.
+/// The instruction of the first row that the word matches.
 fn kind_of<const N: usize>(rows: &[InsnRow; N], kinds: &[AvrKind; N], word: u16) -> Option<AvrKind>
     ensures { result ≡ option_and_then (slice_get kinds.now) (position (is_match word) rows.now) }
 {
     match find_row(rows, word) {
         Some(place) => Some(kinds[place]),
         None => None,
-    }
-}
-
-#[cfg(test)]
-mod tests {
-    use super::*;
-
-    // Words of the AVR Instruction Set Manual, with fields that are neither all 0 nor all 1.
-    #[test]
-    fn knows_the_words_of_the_manual(rt: HostRuntime) {
-        let words = [
-            (0x0000, Some(AvrKind::Nop)),
-            (0x0f9a, Some(AvrKind::Add)),
-            (0x1c01, Some(AvrKind::Adc)),
-            (0xe58f, Some(AvrKind::Ldi)),
-            (0xf011, Some(AvrKind::Brbs)),
-            (0xb58d, Some(AvrKind::In)),
-            (0xbf8f, Some(AvrKind::Out)),
-            (0x940c, Some(AvrKind::Jmp)),
-            (0x940e, Some(AvrKind::Call)),
-            (0x9508, Some(AvrKind::Ret)),
-            (0x9518, None),
-            (0x900d, None),
-            (0x930d, Some(AvrKind::St)),
-            (0x9210, Some(AvrKind::Sts)),
-            (0xa99f, Some(AvrKind::Ldd)),
-            (0xffff, None),
-        ];
-        for (word, kind) in words {
-            assert_eq!(rt; avr_kind(word), kind, "at {word:04x}");
-        }
     }
 }

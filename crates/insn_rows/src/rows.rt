@@ -1,3 +1,5 @@
+//! Rows of a table of instructions.
+
 ghost use Rattle.std.specs.Prelude.{◌≡◌, ℕ, ◌<◌, ◌↔◌, Some, IsTrue, IfSome, AllPairs, position, slice_get};
 ghost use Rattle.std.specs.List.{list_all};
 ghost use Rattle.insn_rows.specs.declared.rows.InsnRow.{InsnRow};
@@ -36,7 +38,7 @@ pub fn rows_apart<const N: usize>(rows: &[InsnRow; N]) -> bool
     all_rows_apart(&rows[..])
 }
 
-// The test of each row with each later one.
+/// The test of each row with each later one.
 fn all_rows_apart(rows: &[InsnRow]) -> bool
     ensures { result ≡ all_apart rows.now }
 {
@@ -46,54 +48,17 @@ fn all_rows_apart(rows: &[InsnRow]) -> bool
     }
 }
 
-// The test of a row with each of the others.
+/// The test of a row with each of the others.
 fn row_apart_from(row: &InsnRow, others: &[InsnRow]) -> bool
     ensures { result ≡ list_all (are_apart row.now) others.now }
 {
     others.iter().all(|other| two_apart(row, other))
 }
 
-// The test of two rows: one of them has a bit outside its mask, so that no word matches it, or they
-// ask for different bits where both masks are.
+/// The test of two rows: one of them has a bit outside its mask, so that no word matches it, or they
+/// ask for different bits where both masks are.
 fn two_apart(a: &InsnRow, b: &InsnRow) -> bool
     ensures { result ≡ are_apart a.now b.now }
 {
     a.bits & a.mask != a.bits || b.bits & b.mask != b.bits || a.bits & b.mask != b.bits & a.mask
-}
-
-#[cfg(test)]
-mod tests {
-    use super::*;
-
-    const fn row(mask: u16, bits: u16, kind: u8) -> InsnRow {
-        InsnRow { mask, bits, kind }
-    }
-
-    #[test]
-    fn finds_the_first_row(rt: HostRuntime) {
-        let rows = [
-            row(0xff00, 0x1200, 7),
-            row(0xfff0, 0x1230, 8),
-            row(0x0000, 0x0000, 9),
-        ];
-        for (word, place) in [(0x1234, 0), (0x1334, 2), (0x12ff, 0)] {
-            assert_eq!(rt; find_row(&rows, word), Some(place), "at {word:04x}");
-        }
-        assert_eq!(rt; find_row(&[row(0xff00, 0x1200, 7)], 0x1300), None);
-    }
-
-    #[test]
-    fn tells_rows_apart(rt: HostRuntime) {
-        let bits_differ = [
-            row(0xff00, 0x1200, 0),
-            row(0xff00, 0x1300, 1),
-            row(0x00ff, 0x00aa, 2),
-        ];
-        assert!(rt;
-            !rows_apart(&bits_differ),
-            "0x12aa matches the first row and the last"
-        );
-        assert!(rt; rows_apart(&[bits_differ[0], bits_differ[1]]));
-        assert!(rt; rows_apart(&[row(0x0000, 0x0001, 0), row(0x0000, 0x0000, 1)]));
-    }
 }

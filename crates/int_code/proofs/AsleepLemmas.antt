@@ -22,7 +22,8 @@ module _ (r : Reading) (outer : List Bool) (t : Store) (n : ℕ) (off : all_run 
   abbrev Sleeps : List IntOp → Type 0
   Sleeps ops = (es inner : List Bool) → length es ≡ length inner → nests ops es ≡ true → run r ops (inside inner) ≡ inside []
 
-  sleeps_by : (op : IntOp) (ops : List IntOp) → Sleeps ops → (shape : Shape) → shape_of op ≡ shape → (es inner : List Bool) → length es ≡ length inner → nests_by shape (nests ops) es ≡ true → run r ops (step r op (inside inner)) ≡ inside []
+  sleeps_by : (op : IntOp) (ops : List IntOp) → Sleeps ops → (shape : Shape) → shape_of op ≡ shape → (es inner : List Bool) → length es ≡ length inner
+      → nests_by shape (nests ops) es ≡ true → run r ops (step r op (inside inner)) ≡ inside []
   sleeps_by op ops rest Opens e es inner l h = rw (e, still_off inner) (rest (false ∷ es) (holds r op t ∷ inner) (omega (arith, l)) h)
   sleeps_by op ops rest Turns e (d ∷ es) (b ∷ bs) l h = rw (e, still_off bs) (rest (true ∷ es) (not b ∷ bs) (omega (arith, l)) (and_last (not d) _ h))
   sleeps_by op ops rest Turns e (d ∷ es) [] l h = absurd (omega (arith, l))

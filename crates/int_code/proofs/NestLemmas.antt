@@ -18,7 +18,8 @@ pub and_last : (a b : Bool) → (a && b) ≡ true → b ≡ true
 and_last true b h = h
 and_last false b h = cc
 
-pub nests_step : (shape : Shape) (runs : Bool) (ops : List IntOp) (ifs es : List Bool) → nests_by shape (nests ops) es ≡ true → length es ≡ length ifs → Nested shape runs ops ifs
+pub nests_step : (shape : Shape) (runs : Bool) (ops : List IntOp) (ifs es : List Bool) → nests_by shape (nests ops) es ≡ true → length es ≡ length ifs
+    → Nested shape runs ops ifs
 nests_step Opens runs ops ifs es h l = record { flags = false ∷ es; count = omega (arith, l); rest = h; is_open = tt }
 nests_step Turns runs ops (b ∷ bs) (e ∷ es) h l = record { flags = true ∷ es; count = omega (arith, l); rest = and_last (not e) _ h; is_open = tt }
 nests_step Turns runs ops [] (e ∷ es) h l = absurd (omega (arith, l))

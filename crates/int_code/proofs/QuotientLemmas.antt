@@ -21,7 +21,8 @@ quotient_fits (negsuc a) (negsuc b) f = record { sfits = omega (arith, ints, at_
 wider : (a : ℤ) → FitsSigned w16 a → FitsSigned w64 a
 wider a f = record { sfits = omega (arith, f.sfits) }
 
-pub quotient_is : (a b : ℤ) → FitsSigned w16 a → FitsSigned w16 b → cast_signed w64 (cast_unsigned w64 (int_div (cast_signed w64 (cast_unsigned w64 a)) (cast_signed w64 (cast_unsigned w64 b)))) ≡ int_div a b
+pub quotient_is : (a b : ℤ) → FitsSigned w16 a → FitsSigned w16 b
+    → cast_signed w64 (cast_unsigned w64 (int_div (cast_signed w64 (cast_unsigned w64 a)) (cast_signed w64 (cast_unsigned w64 b)))) ≡ int_div a b
 quotient_is a b f g = quot_is w64 a b (wider a f) (wider b g) (quotient_fits a b f)
 
 divided_by : (z : Bool) (a b r : ℤ) → (z ≡ true → ⊥) → r ≡ wrap (int_div a b) → r ≡ cond z (pos 0) (wrap (int_div a b))

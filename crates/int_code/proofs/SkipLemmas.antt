@@ -30,9 +30,11 @@ keeps r op t h = absurd (h refl)
 
 module _ (r : Reading) (s : State) (t : Store) (n : ℕ) (same : store_of s ≡ t) where
   abbrev Skips : IntOp → Shape → ℕ → List Bool → Type 0
-  Skips op shape depth ifs = Stands (step r op (record { ifs = ifs; store = t; count = n })) (skipped_at depth shape (record { skips = true; depth = depth; count = n })) s
+  Skips op shape depth ifs =
+      Stands (step r op (record { ifs = ifs; store = t; count = n })) (skipped_at depth shape (record { skips = true; depth = depth; count = n })) s
 
-  skips_by : (op : IntOp) (shape : Shape) → shape_of op ≡ shape → (depth : ℕ) (ifs : List Bool) → IsOff depth ifs → IsOpenForShape shape ifs → Skips op shape depth ifs
+  skips_by : (op : IntOp) (shape : Shape) → shape_of op ≡ shape → (depth : ℕ) (ifs : List Bool) → IsOff depth ifs → IsOpenForShape shape ifs
+      → Skips op shape depth ifs
   skips_by op Opens e depth ifs off open_for = rw (e, off_stops depth ifs off, add-one) (record { mode = off; count = refl; store = same })
   skips_by op Turns e zero (b ∷ bs) off open_for = rw (e, off.0, off.1) (record { mode = rw off.1 refl; count = refl; store = same })
   skips_by op Turns e (suc depth) (b ∷ bs) off open_for = rw (e, off_stops depth bs off) (record { mode = off; count = refl; store = same })

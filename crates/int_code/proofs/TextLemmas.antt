@@ -9,5 +9,6 @@ values_text-append [] ys = refl
 values_text-append (x ∷ xs) ys = rw (values_text-append xs ys) (simp append_assoc)
 
 -- one more value is written
-pub values_text-more : (xs : List ℤ) (i : ℕ) → i < length xs → values_text (take i xs) ++ (codes " " ++ signed_decimal (get_or xs i (pos 0))) ≡ values_text (take (i + 1) xs)
+pub values_text-more : (xs : List ℤ) (i : ℕ) → i < length xs
+    → values_text (take i xs) ++ (codes " " ++ signed_decimal (get_or xs i (pos 0))) ≡ values_text (take (i + 1) xs)
 values_text-more xs i h = rw (take_more xs i (pos 0) h, values_text-append) (simp append-nil)

@@ -20,7 +20,9 @@ closes (op ∷ ops) depth had = closes_by (shape_of op) (closes ops) depth had
 
 abbrev pub closes_behind : Shape → List IntOp → Bool
 closes_behind Opens ops = closes ops zero false
-closes_behind shape ops = true
+closes_behind Turns ops = true
+closes_behind Closes ops = true
+closes_behind Plain ops = true
 
 -- each if closes
 abbrev pub all_close : List IntOp → Bool

@@ -3,6 +3,7 @@ use Rattle.std.specs.Prelude.{◌≡◌, ◌+◌, ◌*◌, pos, false, length, s
 use Rattle.std.specs.Option.{option_map, option_to_list}
 use Rattle.ladder_meaning.specs.State as ladder
 use Rattle.ladder_meaning.specs.declared.reading.Reading.{Reading}
+use Rattle.int_code.specs.declared.limits.TheConstants.{MOST_PERSISTENT}
 use Rattle.int_code.specs.declared.state.Devices as held
 use Rattle.int_code.specs.declared.state.Pending as waiting
 use Rattle.int_code.specs.declared.state.State.{State}
@@ -32,7 +33,7 @@ store_of s = record {
   devices = devices_of s.devices;
 }
 
--- the sizes of what a run is given; an EEPROM has room for 256 variables
+-- the sizes of what a run is given
 abbrev pub held_sizes : Reading → State → Sizes
 held_sizes r s = record {
   bits = length s.bits.items;
@@ -40,7 +41,7 @@ held_sizes r s = record {
   inputs = length r.inputs;
   analogs = length r.analog;
   variables = length s.numbers.items;
-  persistent = 256;
+  persistent = MOST_PERSISTENT;
 }
 
 -- those of a state alone, with no reading
@@ -51,7 +52,7 @@ state_sizes s = record {
   inputs = 0;
   analogs = 0;
   variables = length s.numbers.items;
-  persistent = 256;
+  persistent = MOST_PERSISTENT;
 }
 
 -- the state that a run leaves has the sizes of that which it found

@@ -1,13 +1,16 @@
+-- what a reader of the promises must believe
 pub mod Shapes
-pub mod Groups
 pub mod Store
 pub mod Device
 pub mod Meaning
 pub mod WellFormed
-pub mod Caps
+pub mod Kinds
+pub mod Lowered
+pub mod Literals
 pub mod Text
+pub mod Uses
 pub mod Held
+-- what only proofs need
+pub mod Groups
 pub mod Stands
 pub mod Closes
-pub mod Uses
-pub mod Literals

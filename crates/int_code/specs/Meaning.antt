@@ -10,7 +10,7 @@ use Rattle.int_code.specs.Shapes.{shape_of}
 use Rattle.int_code.specs.Store.{Store, opened, value_of, number_of, with, with_number, with_devices}
 use Rattle.int_code.specs.declared.op.BitDest.{BitDest}
 use Rattle.int_code.specs.declared.op.IntOp.{IntOp}
-use Rattle.int_code.specs.declared.op.IntOp.TheVariants.{Set, Clr, Cpy, Not, Ifs, Ifc, Iflt, Ifeq, Ifee, Lit, Mov, Add, Sub, Mul, Div, Inc, Dec, Adc, Pwm, Rx, Tx, Eebusy, Eerd, Eewr, Tab}
+use Rattle.int_code.specs.declared.op.IntOp.TheVariants.{Set, Clr, Cpy, Not, Ifs, Ifc, Iflt, Ifeq, Ifee, Els, Fi, Lit, Mov, Add, Sub, Mul, Div, Inc, Dec, Adc, Pwm, Rx, Tx, Eebusy, Eerd, Eewr, Tab}
 use Rattle.int_code.specs.declared.op.Shape.{Shape}
 use Rattle.int_code.specs.declared.op.Shape.TheVariants.{Opens, Turns, Closes, Plain}
 
@@ -26,14 +26,35 @@ abbrev pub all_run : List Bool → Bool
 all_run [] = true
 all_run (b ∷ bs) = all_run bs && b
 
--- whether the first branch of an if runs
+-- whether the first branch of an if runs; what opens none has no such branch
 abbrev pub holds : Reading → IntOp → Store → Bool
 holds r (Ifs s) t = value_of r t s
 holds r (Ifc s) t = not (value_of r t s)
 holds r (Iflt w u) t = int_lt (number_of t w) (number_of t u)
 holds r (Ifeq w u) t = int_eq (number_of t w) (number_of t u)
 holds r (Ifee v a) t = int_eq (t.number v) (saved t.devices a)
-holds r op t = true
+holds r (Set b) t = true
+holds r (Clr b) t = true
+holds r (Cpy b s) t = true
+holds r (Not b s) t = true
+holds r Els t = true
+holds r Fi t = true
+holds r (Lit v n) t = true
+holds r (Mov v from) t = true
+holds r (Add v w u) t = true
+holds r (Sub v w u) t = true
+holds r (Mul v w u) t = true
+holds r (Div v w u) t = true
+holds r (Inc v) t = true
+holds r (Dec v) t = true
+holds r (Adc v k) t = true
+holds r (Pwm w hz) t = true
+holds r (Rx v b) t = true
+holds r (Tx w s b) t = true
+holds r (Eebusy b) t = true
+holds r (Eerd v a) t = true
+holds r (Eewr w a) t = true
+holds r (Tab v w values) t = true
 
 -- the open ifs behind an operation of a shape, which opens one whose first branch runs or not
 abbrev pub ifs_behind : Shape → Bool → List Bool → List Bool
@@ -49,8 +70,11 @@ ifs_after r op t bs = ifs_behind (shape_of op) (holds r op t) bs
 
 -- The run comes to an operation where each open if's branch runs. It comes to a `fi` also from a branch that does not.
 abbrev pub is_reached_by : Shape → List Bool → Bool
+is_reached_by Opens bs = all_run bs
+is_reached_by Turns bs = all_run bs
+is_reached_by Closes [] = true
 is_reached_by Closes (b ∷ bs) = all_run bs
-is_reached_by shape bs = all_run bs
+is_reached_by Plain bs = all_run bs
 
 abbrev pub is_reached : IntOp → List Bool → Bool
 is_reached op bs = is_reached_by (shape_of op) bs
@@ -94,7 +118,13 @@ store_after r (Eebusy b) t = with (with_devices t (checked t.devices)) b (is_bus
 store_after r (Eerd v a) t = with_number t v (saved t.devices a)
 store_after r (Eewr w a) t = with_devices t (saves t.devices a (number_of t w))
 store_after r (Tab v w values) t = looked_up t v (value_at values (number_of t w))
-store_after r op t = t
+store_after r (Ifs s) t = t
+store_after r (Ifc s) t = t
+store_after r (Iflt w u) t = t
+store_after r (Ifeq w u) t = t
+store_after r (Ifee v a) t = t
+store_after r Els t = t
+store_after r Fi t = t
 
 abbrev pub step : Reading → IntOp → Moment → Moment
 step r op m = record {

@@ -3,7 +3,7 @@ use Rattle.std.specs.Prelude.{◌≡◌, ℕ, zero, suc, ◌+◌, Bool, true, fa
 use Rattle.int_code.specs.declared.cycle.Progress.{Progress}
 use Rattle.int_code.specs.declared.op.IntOp.{IntOp}
 use Rattle.int_code.specs.declared.op.Shape.{Shape}
-use Rattle.int_code.specs.declared.op.Shape.TheVariants.{Opens, Turns, Closes}
+use Rattle.int_code.specs.declared.op.Shape.TheVariants.{Opens, Turns, Closes, Plain}
 use Rattle.int_code.specs.declared.state.State.{State}
 use Rattle.int_code.specs.Held.{store_of}
 use Rattle.int_code.specs.Meaning.{Moment, all_run}
@@ -30,8 +30,11 @@ pub record Stands (m : Moment) (p : Progress) (s : State) : Type 0 where
 
 -- an `els` has an open if
 abbrev pub IsOpenForShape : Shape → List Bool → Type 0
+IsOpenForShape Opens ifs = Unit {0}
 IsOpenForShape Turns [] = ⊥
-IsOpenForShape shape ifs = Unit {0}
+IsOpenForShape Turns (b ∷ bs) = Unit {0}
+IsOpenForShape Closes ifs = Unit {0}
+IsOpenForShape Plain ifs = Unit {0}
 
 abbrev pub IsOpenFor : IntOp → List Bool → Type 0
 IsOpenFor op ifs = IsOpenForShape (shape_of op) ifs
@@ -42,7 +45,8 @@ skipped_at depth Opens p = record { skips = p.skips; depth = depth + 1; count = 
 skipped_at zero Turns p = record { skips = false; depth = zero; count = p.count }
 skipped_at zero Closes p = record { skips = false; depth = zero; count = p.count + 1 }
 skipped_at (suc depth) Closes p = record { skips = p.skips; depth = depth; count = p.count }
-skipped_at depth shape p = p
+skipped_at (suc depth) Turns p = p
+skipped_at depth Plain p = p
 
 abbrev pub skipped : IntOp → Progress → Progress
 skipped op p = skipped_at p.depth (shape_of op) p

@@ -1,5 +1,5 @@
 -- The lines of operations, as they stand in the interpretable text.
-use Rattle.std.specs.Prelude.{ℕ, List, [], ◌∷◌, ◌++◌, ℤ, length, codes}
+use Rattle.std.specs.Prelude.{ℕ, ◌==◌, List, [], ◌∷◌, ◌++◌, ℤ, length, codes, if◌then◌else◌}
 use Rattle.std.specs.Fmt.{decimal, signed_decimal}
 use Rattle.int_code.specs.declared.op.BitDest.{BitDest}
 use Rattle.int_code.specs.declared.op.BitDest.TheVariants as dest
@@ -69,3 +69,8 @@ op_words (Tab v w values) = three (codes "tab ") (variable_text v) (number_text 
 
 abbrev pub op_text : IntOp → List ℕ
 op_text op = op_words op ++ codes "\n"
+
+-- the bytes in front of the first space
+abbrev pub first_word : List ℕ → List ℕ
+first_word [] = []
+first_word (c ∷ cs) = if c == 32 then [] else c ∷ first_word cs

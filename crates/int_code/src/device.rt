@@ -7,16 +7,17 @@ ghost use Rattle.int_code.specs.Held.{store_of, devices_of, held_sizes, state_si
 ghost use Rattle.int_code.specs.Meaning.{store_after, received, transmitted};
 ghost use Rattle.int_code.specs.Stands.{IsIdle};
 ghost use Rattle.int_code.specs.WellFormed.{IsDest, IsInRange};
+ghost use Rattle.int_code.specs.declared.limits.TheConstants.{MOST_PERSISTENT};
 
 use crate::op::{BitDest, BitSource, IntOp, NumSource};
+use crate::operand::{number, saved, value};
 use crate::state::{Devices, Pending, State};
-use crate::test::{number, saved, value};
 use ladder_meaning::reading::Reading;
 
 impl Devices {
     /// Writes the low byte of a persistent variable's number. The high byte waits.
     fn save(&mut self, a: u32, n: i16)
-        requires { a < 256 }
+        requires { a < MOST_PERSISTENT }
         ensures devices { devices_of self.new ≡ saves (devices_of self.old) a n }
         ensures sending { self.new.sending ≡ self.old.sending }
         ensures sent { self.new.sent ≡ self.old.sent }

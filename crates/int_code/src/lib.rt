@@ -3,10 +3,11 @@
 
 pub mod cycle;
 mod device;
+mod execute;
 pub mod laws;
+pub mod limits;
 pub mod op;
+mod operand;
 pub mod state;
-mod test;
 pub mod text;
 pub mod well_formed;
-mod write;

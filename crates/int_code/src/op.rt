@@ -186,7 +186,16 @@ impl IntOp {
             IntOp::Iflt { .. } | IntOp::Ifeq { .. } | IntOp::Ifee { .. } => Shape::Opens,
             IntOp::Els => Shape::Turns,
             IntOp::Fi => Shape::Closes,
-            _ => Shape::Plain,
+            IntOp::Set { .. } | IntOp::Clr { .. } => Shape::Plain,
+            IntOp::Cpy { .. } | IntOp::Not { .. } => Shape::Plain,
+            IntOp::Lit { .. } | IntOp::Mov { .. } => Shape::Plain,
+            IntOp::Add { .. } | IntOp::Sub { .. } => Shape::Plain,
+            IntOp::Mul { .. } | IntOp::Div { .. } => Shape::Plain,
+            IntOp::Inc { .. } | IntOp::Dec { .. } => Shape::Plain,
+            IntOp::Adc { .. } | IntOp::Pwm { .. } => Shape::Plain,
+            IntOp::Rx { .. } | IntOp::Tx { .. } => Shape::Plain,
+            IntOp::Eebusy { .. } | IntOp::Eerd { .. } => Shape::Plain,
+            IntOp::Eewr { .. } | IntOp::Tab { .. } => Shape::Plain,
         }
     }
 }

@@ -8,9 +8,7 @@ use ladder_tree::element::Nums;
 use ld_base::list::List;
 use std::alloc::{AllocError, Global};
 use std::fmt;
-
-/// Bytes of a text that the project writes.
-pub type Text = List<u8>;
+use texts::Text;
 
 impl fmt::Display for BitDest {
     ghost use Rattle.std.specs.Prelude.{Some};
@@ -50,7 +48,7 @@ impl fmt::Display for NumSource {
     fn fmt<W: fmt::Write>(&self, f: &mut fmt::Formatter<W>) -> fmt::Result {
         match self {
             NumSource::V(k) => write!(f, "v{k}"),
-            NumSource::N(n) => write!(f, "{n}"),
+            NumSource::N(n) => n.fmt(f),
         }
     }
 }
@@ -80,36 +78,66 @@ impl fmt::Display for IntOp {
     ghost output = { λ op. Some (op_words op) };
 
     fn fmt<W: fmt::Write>(&self, f: &mut fmt::Formatter<W>) -> fmt::Result {
+        let word = self.word();
         match self {
-            IntOp::Set { b } => write!(f, "set {b}"),
-            IntOp::Clr { b } => write!(f, "clr {b}"),
-            IntOp::Cpy { b, s } => write!(f, "cpy {b} {s}"),
-            IntOp::Not { b, s } => write!(f, "not {b} {s}"),
-            IntOp::Ifs { s } => write!(f, "ifs {s}"),
-            IntOp::Ifc { s } => write!(f, "ifc {s}"),
-            IntOp::Iflt { w, u } => write!(f, "iflt {w} {u}"),
-            IntOp::Ifeq { w, u } => write!(f, "ifeq {w} {u}"),
-            IntOp::Ifee { v, a } => write!(f, "ifee v{v} {a}"),
-            IntOp::Els => write!(f, "els"),
-            IntOp::Fi => write!(f, "fi"),
-            IntOp::Lit { v, n } => write!(f, "lit v{v} {n}"),
-            IntOp::Mov { v, from } => write!(f, "mov v{v} v{from}"),
-            IntOp::Add { v, w, u } => write!(f, "add v{v} {w} {u}"),
-            IntOp::Sub { v, w, u } => write!(f, "sub v{v} {w} {u}"),
-            IntOp::Mul { v, w, u } => write!(f, "mul v{v} {w} {u}"),
-            IntOp::Div { v, w, u } => write!(f, "div v{v} {w} {u}"),
-            IntOp::Inc { v } => write!(f, "inc v{v}"),
-            IntOp::Dec { v } => write!(f, "dec v{v}"),
-            IntOp::Adc { v, k } => write!(f, "adc v{v} {k}"),
-            IntOp::Pwm { w, hz } => write!(f, "pwm {w} {hz}"),
-            IntOp::Rx { v, b } => write!(f, "rx v{v} {b}"),
-            IntOp::Tx { w, s, b } => write!(f, "tx {w} {s} {b}"),
-            IntOp::Eebusy { b } => write!(f, "eebusy {b}"),
-            IntOp::Eerd { v, a } => write!(f, "eerd v{v} {a}"),
-            IntOp::Eewr { w, a } => write!(f, "eewr {w} {a}"),
+            IntOp::Set { b } | IntOp::Clr { b } | IntOp::Eebusy { b } => write!(f, "{word} {b}"),
+            IntOp::Cpy { b, s } | IntOp::Not { b, s } => write!(f, "{word} {b} {s}"),
+            IntOp::Ifs { s } | IntOp::Ifc { s } => write!(f, "{word} {s}"),
+            IntOp::Iflt { w, u } | IntOp::Ifeq { w, u } => write!(f, "{word} {w} {u}"),
+            IntOp::Ifee { v, a } | IntOp::Eerd { v, a } => write!(f, "{word} v{v} {a}"),
+            IntOp::Els | IntOp::Fi => f.write_str(word),
+            IntOp::Lit { v, n } => write!(f, "{word} v{v} {n}"),
+            IntOp::Mov { v, from } => write!(f, "{word} v{v} v{from}"),
+            IntOp::Add { v, w, u }
+            | IntOp::Sub { v, w, u }
+            | IntOp::Mul { v, w, u }
+            | IntOp::Div { v, w, u } => write!(f, "{word} v{v} {w} {u}"),
+            IntOp::Inc { v } | IntOp::Dec { v } => write!(f, "{word} v{v}"),
+            IntOp::Adc { v, k } => write!(f, "{word} v{v} {k}"),
+            IntOp::Pwm { w, hz } => write!(f, "{word} {w} {hz}"),
+            IntOp::Rx { v, b } => write!(f, "{word} v{v} {b}"),
+            IntOp::Tx { w, s, b } => write!(f, "{word} {w} {s} {b}"),
+            IntOp::Eewr { w, a } => write!(f, "{word} {w} {a}"),
             IntOp::Tab { v, w, values } => {
-                write!(f, "tab v{v} {w} {}{}", values.len(), Values(values))
+                write!(f, "{word} v{v} {w} {}{}", values.len(), Values(values))
             }
+        }
+    }
+}
+
+impl IntOp {
+    /// The operation's word.
+    fn word(&self) -> &'static str
+        ensures { result.now ≡ spec.first_word (spec.op_words self.now) }
+    {
+        match self {
+            IntOp::Set { .. } => "set",
+            IntOp::Clr { .. } => "clr",
+            IntOp::Cpy { .. } => "cpy",
+            IntOp::Not { .. } => "not",
+            IntOp::Ifs { .. } => "ifs",
+            IntOp::Ifc { .. } => "ifc",
+            IntOp::Iflt { .. } => "iflt",
+            IntOp::Ifeq { .. } => "ifeq",
+            IntOp::Ifee { .. } => "ifee",
+            IntOp::Els => "els",
+            IntOp::Fi => "fi",
+            IntOp::Lit { .. } => "lit",
+            IntOp::Mov { .. } => "mov",
+            IntOp::Add { .. } => "add",
+            IntOp::Sub { .. } => "sub",
+            IntOp::Mul { .. } => "mul",
+            IntOp::Div { .. } => "div",
+            IntOp::Inc { .. } => "inc",
+            IntOp::Dec { .. } => "dec",
+            IntOp::Adc { .. } => "adc",
+            IntOp::Pwm { .. } => "pwm",
+            IntOp::Rx { .. } => "rx",
+            IntOp::Tx { .. } => "tx",
+            IntOp::Eebusy { .. } => "eebusy",
+            IntOp::Eerd { .. } => "eerd",
+            IntOp::Eewr { .. } => "eewr",
+            IntOp::Tab { .. } => "tab",
         }
     }
 }
@@ -120,113 +148,4 @@ pub fn op_text(alloc: Global, op: &IntOp) -> Result<Text, AllocError>
 {
     let line = format!(in alloc; "{op}\n")?;
     Ok(List::from_vec(line.into_bytes()))
-}
-
-#[cfg(test)]
-mod tests {
-    use super::*;
-    use std::test::Fail;
-
-    #[test]
-    fn writes_operations_on_bits(rt: HostRuntime) -> Result<(), Fail> {
-        let b = BitDest::B(0);
-        let y = BitDest::Y(12);
-        let s = BitSource::X(3);
-        let far = BitSource::B(99999);
-        let rows = [
-            (IntOp::Set { b }, "set b0\n"),
-            (IntOp::Clr { b: y }, "clr y12\n"),
-            (IntOp::Cpy { b, s }, "cpy b0 x3\n"),
-            (
-                IntOp::Not {
-                    b: y,
-                    s: BitSource::Y(4),
-                },
-                "not y12 y4\n",
-            ),
-            (IntOp::Ifs { s: far }, "ifs b99999\n"),
-            (IntOp::Ifc { s }, "ifc x3\n"),
-            (IntOp::Els, "els\n"),
-            (IntOp::Fi, "fi\n"),
-            (IntOp::Rx { v: 6, b }, "rx v6 b0\n"),
-            (
-                IntOp::Tx {
-                    w: NumSource::V(2),
-                    s,
-                    b: y,
-                },
-                "tx v2 x3 y12\n",
-            ),
-            (IntOp::Eebusy { b }, "eebusy b0\n"),
-        ];
-        for (op, want) in rows {
-            let text = op_text(rt.alloc(), &op)?;
-            assert_eq!(rt; text.as_slice(), want.as_bytes(), "at {op}");
-        }
-        Ok(())
-    }
-
-    #[test]
-    fn writes_operations_on_numbers(rt: HostRuntime) -> Result<(), Fail> {
-        let w = NumSource::V(3);
-        let u = NumSource::N(-32768);
-        let rows = [
-            (IntOp::Iflt { w, u }, "iflt v3 -32768\n"),
-            (IntOp::Ifeq { w: u, u: w }, "ifeq -32768 v3\n"),
-            (IntOp::Lit { v: 7, n: -1 }, "lit v7 -1\n"),
-            (IntOp::Mov { v: 7, from: 10 }, "mov v7 v10\n"),
-            (IntOp::Add { v: 0, w, u }, "add v0 v3 -32768\n"),
-            (IntOp::Sub { v: 1, w: u, u: w }, "sub v1 -32768 v3\n"),
-            (IntOp::Mul { v: 2, w, u: w }, "mul v2 v3 v3\n"),
-            (
-                IntOp::Div {
-                    v: 3,
-                    w,
-                    u: NumSource::N(32767),
-                },
-                "div v3 v3 32767\n",
-            ),
-            (IntOp::Inc { v: 4 }, "inc v4\n"),
-            (IntOp::Dec { v: 5 }, "dec v5\n"),
-        ];
-        for (op, want) in rows {
-            let text = op_text(rt.alloc(), &op)?;
-            assert_eq!(rt; text.as_slice(), want.as_bytes(), "at {op}");
-        }
-        Ok(())
-    }
-
-    #[test]
-    fn writes_operations_on_devices(rt: HostRuntime) -> Result<(), Fail> {
-        let w = NumSource::V(3);
-        let values = List::from_vec(vec![in rt.alloc(); 5, -60, 0]?);
-        let none = List::new(rt.alloc());
-        let rows = [
-            (IntOp::Ifee { v: 8, a: 255 }, "ifee v8 255\n"),
-            (IntOp::Adc { v: 0, k: 1 }, "adc v0 1\n"),
-            (IntOp::Pwm { w, hz: 1000 }, "pwm v3 1000\n"),
-            (IntOp::Eerd { v: 8, a: 0 }, "eerd v8 0\n"),
-            (
-                IntOp::Eewr {
-                    w: NumSource::N(-2),
-                    a: 9,
-                },
-                "eewr -2 9\n",
-            ),
-            (IntOp::Tab { v: 1, w, values }, "tab v1 v3 3 5 -60 0\n"),
-            (
-                IntOp::Tab {
-                    v: 1,
-                    w,
-                    values: none,
-                },
-                "tab v1 v3 0\n",
-            ),
-        ];
-        for (op, want) in rows {
-            let text = op_text(rt.alloc(), &op)?;
-            assert_eq!(rt; text.as_slice(), want.as_bytes(), "at {op}");
-        }
-        Ok(())
-    }
 }

@@ -29,7 +29,8 @@ was_sent None = refl
 was_sent (Some byte) = refl
 
 -- the lists of a state, and what its devices show, are what the program shows
-pub shown : (shows_duty : Bool) (n : Names) (p : IntProgram) (s : State) (os rs : List Bool) (vs : List ℤ) (pwm : Option ℕ) (eeprom : Option (List ℕ)) → IsWhole (record { program = p; state = s }) → HasPlaces n p
+pub shown : (shows_duty : Bool) (n : Names) (p : IntProgram) (s : State) (os rs : List Bool) (vs : List ℤ) (pwm : Option ℕ) (eeprom : Option (List ℕ))
+    → IsWhole (record { program = p; state = s }) → HasPlaces n p
     → os ≡ s.outputs.items → rs ≡ take (length n.relays) s.bits.items → vs ≡ s.numbers.items → pwm ≡ duty_of shows_duty (pos s.devices.duty)
     → eeprom ≡ bytes_of p.persistent (λ k. slice_index_or s.devices.eeprom k 0)
     → record { outputs = os; relays = rs; variables = vs; pwm = pwm; sent = s.devices.sent; eeprom = eeprom } ≡ view_by shows_duty n p (store_of s)

@@ -7,6 +7,7 @@ use Rattle.int_code.specs.Held.{store_of}
 use Rattle.int_code.specs.Store.{Store}
 use Rattle.int_code.specs.Uses.{has_pwm}
 use Rattle.int_code.specs.WellFormed.{IsWellFormed}
+use Rattle.int_code.specs.declared.limits.TheConstants.{MOST_PERSISTENT}
 use Rattle.int_code.specs.declared.op.IntProgram.{IntProgram}
 use Rattle.int_code.specs.declared.state.State.{State}
 
@@ -19,10 +20,10 @@ pub record Running : Type 0 where
 abbrev pub state_of : Running → Store
 state_of m = store_of m.state
 
--- an EEPROM has room for 256 variables
+-- the program is well formed, an EEPROM has room for its persistent variables, and operations can be counted
 pub record IsRunnable (p : IntProgram) : Type 0 where
   pub well_formed : IsWellFormed p
-  pub persistent : p.persistent ≤ 256
+  pub persistent : p.persistent ≤ MOST_PERSISTENT
   pub length : length p.ops < 2 ^ 31
 
 -- the state has the sizes of the program

@@ -4,6 +4,7 @@ ghost use Rattle.std.specs.Prelude.{◌≡◌, ◌<◌, ◌≤◌, length, slice
 ghost use Rattle.int_code.specs.Meaning as meaning;
 ghost use Rattle.int_code.specs.Store.{start};
 ghost use Rattle.int_code.specs.Uses.{is_pwm, has_pwm};
+ghost use Rattle.int_code.specs.declared.limits.TheConstants.{MOST_PERSISTENT};
 ghost use Rattle.ladder_meaning.specs.View.{bytes_of, duty_of, sent_of};
 ghost use Rattle.int_sim.specs.Machine.{state_of, IsRunnable, HasPlaces, view_of, view_by};
 
@@ -40,7 +41,7 @@ impl Model for Sim {
 }
 
 impl Sim {
-    /// A program of at most 256 persistent variables before its first cycle, with the bytes of an EEPROM. It makes the
+    /// A program before its first cycle, with the bytes of an EEPROM. It makes the
     /// room for all that cycles write.
     pub fn new(alloc: Global, p: IntProgram, ee: &[u8; 512]) -> Result<Sim, AllocError>
         requires { IsRunnable p }
@@ -139,7 +140,7 @@ impl Sim {
 
 /// The bytes of so many persistent variables, two for each; none where there are no such variables.
 fn saved(alloc: Global, persistent: u32, eeprom: &[u8; 512]) -> Result<Option<Bytes>, AllocError>
-    requires { persistent ≤ 256 }
+    requires { persistent ≤ MOST_PERSISTENT }
     ensures { IfOk result (λ bytes. bytes ≡ bytes_of persistent (λ k. slice_index_or eeprom.now k 0)) }
 {
     if persistent == 0 {
@@ -160,123 +161,4 @@ fn is_pwm(op: &IntOp) -> bool
     ensures { result ≡ is_pwm op.now }
 {
     matches!(op, IntOp::Pwm { .. })
-}
-
-#[cfg(test)]
-mod tests {
-    use super::*;
-    use int_code::op::{BitDest, BitSource};
-    use int_code::well_formed::well_formed;
-    use ladder_tree::names::NameList;
-    use std::test::Fail;
-
-    fn one_name(alloc: Global, name: &[u8]) -> Result<NameList, AllocError> {
-        let mut names = List::new(alloc);
-        names.push(List::from_vec(name.to_vec(alloc)?))?;
-        Ok(names)
-    }
-
-    /// The input x0 sets the relay b0, or else the output y0 follows it. The variable v0 counts cycles.
-    fn program(alloc: Global) -> Result<IntProgram, AllocError> {
-        let ops = vec![in alloc;
-            IntOp::Ifs { s: BitSource::X(0) },
-            IntOp::Set { b: BitDest::B(0) },
-            IntOp::Els,
-            IntOp::Cpy {
-                b: BitDest::Y(0),
-                s: BitSource::B(0)
-            },
-            IntOp::Fi,
-            IntOp::Inc { v: 0 },
-        ]?;
-        Ok(IntProgram {
-            ops: List::from_vec(ops),
-            inputs: 1,
-            outputs: 1,
-            analogs: 0,
-            variables: 1,
-            kept_bits: 1,
-            bits: 1,
-            persistent: 0,
-            starts: List::from_vec(vec![in alloc; -1]?),
-        })
-    }
-
-    fn names(alloc: Global) -> Result<Names, AllocError> {
-        Ok(Names {
-            inputs: one_name(alloc, b"Xstart")?,
-            outputs: one_name(alloc, b"Ymotor")?,
-            relays: one_name(alloc, b"Rkept")?,
-            variables: one_name(alloc, b"cycles")?,
-            analog: List::new(alloc),
-            persistent: List::new(alloc),
-            memories: 0,
-        })
-    }
-
-    fn sim(alloc: Global) -> Result<Option<Sim>, AllocError> {
-        let p = program(alloc)?;
-        if !well_formed(&p) || p.persistent > 256 || p.ops.len() >= 1_000_000 {
-            return Ok(None);
-        }
-        Ok(Some(Sim::new(alloc, p, &[0xff; 512])?))
-    }
-
-    /// A cycle on the level of x0: how many operations were executed.
-    fn step(alloc: Global, sim: &mut Sim, level: bool) -> Result<Option<u32>, AllocError> {
-        let mut inputs = List::new(alloc);
-        inputs.push(level)?;
-        let r = Reading {
-            inputs,
-            analog: List::new(alloc),
-            rx: None,
-            tx_busy: false,
-            ee_busy: false,
-        };
-        let program = sim.program();
-        if r.inputs.len() != program.inputs as usize || r.analog.len() != program.analogs as usize {
-            return Ok(None);
-        }
-        Ok(Some(sim.cycle(&r)))
-    }
-
-    /// The level of the relay and of the output, and the number of the variable, where there is one of each.
-    fn shown(alloc: Global, sim: &Sim) -> Result<Option<(bool, bool, i16)>, AllocError> {
-        let names = names(alloc)?;
-        let program = sim.program();
-        if names.outputs.len() != program.outputs as usize
-            || names.variables.len() != program.variables as usize
-            || names.relays.len() > program.bits as usize
-        {
-            return Ok(None);
-        }
-        let view = sim.view(alloc, &names)?;
-        let levels = (view.relays.as_slice(), view.outputs.as_slice());
-        match (levels, view.variables.as_slice()) {
-            (([relay], [output]), [number]) => Ok(Some((*relay, *output, *number))),
-            _ => Ok(None),
-        }
-    }
-
-    #[test]
-    fn runs_a_program(rt: HostRuntime) -> Result<(), Fail> {
-        let Some(mut s) = sim(rt.alloc())? else {
-            return Ok(assert!(rt; false));
-        };
-        // the input; how many operations are executed, the relay, the output, the variable
-        let rows = [
-            (false, 4, false, false, 0),
-            (true, 5, true, false, 1),
-            (false, 4, true, true, 2),
-        ];
-        for (level, count, relay, output, number) in rows {
-            assert_eq!(rt; step(rt.alloc(), &mut s, level)?, Some(count), "at {level}");
-            assert_eq!(rt;
-                shown(rt.alloc(), &s)?,
-                Some((relay, output, number)),
-                "at {level}"
-            );
-        }
-        Ok(())
-    }
 }

@@ -8,7 +8,7 @@ use Rattle.std.specs.List.{range_with_len, list_any}
 use Rattle.chip_tables.specs.declared.target.Target.{Target}
 use Rattle.chip_tables.specs.declared.target.Target.TheVariants.{F628, F877, Mega16, Interp, AnsiC}
 use Rattle.hex.specs.Hex.{IsBytes}
-use Rattle.ld_base.specs.Lines.{lines}
+use Rattle.texts.specs.Lines.{lines}
 use Rattle.intel_hex.specs.declared.fault.HexCause.TheVariants.{Outside, Overlap}
 use Rattle.intel_hex.specs.declared.said.Said.{Said}
 use Rattle.intel_hex.specs.declared.said.Said.TheVariants.{Data}

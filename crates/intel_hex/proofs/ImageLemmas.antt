@@ -8,7 +8,7 @@ use Rattle.chip_tables.specs.declared.target.Target.{Target}
 use Rattle.hex.specs.Hex.{IsBytes, decode_of}
 use Rattle.hex.specs.declared.error.FromHexError.{FromHexError}
 use Rattle.hex.proofs.HexLemmas.{decode_of-ok}
-use Rattle.ld_base.specs.Lines.{lines}
+use Rattle.texts.specs.Lines.{lines, without_return}
 use Rattle.intel_hex.specs.declared.fault.HexCause.{HexCause}
 use Rattle.intel_hex.specs.declared.fault.HexCause.TheVariants.{BadRecord, NoEnd}
 use Rattle.intel_hex.specs.declared.fault.HexFault.{HexFault}
@@ -19,8 +19,10 @@ use Rattle.intel_hex.specs.Areas.{is_pic, flash_of}
 use Rattle.intel_hex.specs.Given.{is_ended, start, byte_of, or_else, given, fault_of}
 use Rattle.intel_hex.specs.Image.{IsImage, IsConfig, word_limit}
 use Rattle.intel_hex.specs.Kept.{word_at, word_count, config_place, config_of, image_of}
-use Rattle.intel_hex.specs.Said.{half, end_said, upper_said, kind_said, unsummed, summed, decoded, marked, without_return, said_of}
-use Rattle.intel_hex.specs.Verdict.{verdict, sayings, judged, is_long, or_fault, hex_verdict}
+use Rattle.intel_hex.specs.Said.{half, end_said, upper_said, kind_said, unsummed, summed, decoded, marked, said_of}
+use Rattle.intel_hex.specs.Verdict.{verdict, sayings, or_fault, hex_verdict}
+use Rattle.texts.specs.Limits.{judged, is_over}
+use Rattle.texts.specs.declared.limits.TheConstants.{FILE_BYTES}
 
 -- ---- what lines say has bytes alone
 
@@ -205,4 +207,4 @@ none_small = λ a b is. absurd cc
 pub read_fits : (t : Target) (text : List ℕ) (image : Image) → hex_verdict t text ≡ Ok image → (image.target ≡ t) × IsImage image
 unfolding Fits
 read_fits t text image is =
-    subst (Fits t) is (verdict_fits t [] (sayings (is_long text) (lines (judged text))) none_small (sayings_fit (is_long text) (lines (judged text))))
+    subst (Fits t) is (verdict_fits t [] (sayings (is_over FILE_BYTES text) (lines (judged FILE_BYTES text))) none_small (sayings_fit (is_over FILE_BYTES text) (lines (judged FILE_BYTES text))))

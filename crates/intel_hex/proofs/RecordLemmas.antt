@@ -7,13 +7,13 @@ use Rattle.std.proofs.lemmas.List.Sums.{sum_by_push}
 use Rattle.std.proofs.Math.Seq.{take-append_seam}
 use Rattle.hex.specs.Hex.{IsBytes, encode_upper, encode_with, upper_digits, hex_digit_value}
 use Rattle.hex.proofs.HexLemmas.{IsDigits-upper_digits, decode_of-encode_upper}
-use Rattle.ld_base.specs.Lines.{lines, IsLine}
-use Rattle.ld_base.proofs.LineLemmas.{lines-line}
+use Rattle.texts.specs.Lines.{lines, behind_return, without_return, IsLine}
+use Rattle.texts.proofs.LineLemmas.{lines-line}
 use Rattle.intel_hex.specs.declared.fault.HexCause.TheVariants.{BadSum}
 use Rattle.intel_hex.specs.declared.said.Said.{Said}
 use Rattle.intel_hex.specs.declared.said.Said.TheVariants.{Broken}
 use Rattle.intel_hex.specs.Record.{bytes_of, closing, line_of}
-use Rattle.intel_hex.specs.Said.{half, kind_said, unsummed, summed, said_by, decoded, marked, behind_return, without_return, said_of}
+use Rattle.intel_hex.specs.Said.{half, kind_said, unsummed, summed, said_by, decoded, marked, said_of}
 
 -- a digit is no such byte
 digit_other : (d c : ℕ) → d < 16 → hex_digit_value c ≡ None → slice_index upper_digits d ≢ c

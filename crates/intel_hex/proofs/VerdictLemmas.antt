@@ -2,7 +2,7 @@
 use Rattle.std.proofs.Common.{◌≡◌, ℕ, suc, ◌+◌, ◌<◌, ◌≤◌, nat_lt, ◌==◌, ◌&&◌, Bool, true, false, if◌then◌else◌, List, [], ◌∷◌, length, Option, Some, None, Result, Ok, Err, refl, sym, ap, ◌∙◌, arith}
 use Rattle.std.proofs.lemmas.Bool.Decides.{nat_tests}
 use Rattle.chip_tables.specs.declared.target.Target.{Target}
-use Rattle.ld_base.specs.Lines.{lines, onto}
+use Rattle.texts.specs.Lines.{lines, onto}
 use Rattle.intel_hex.specs.declared.image.Image.{Image}
 use Rattle.intel_hex.specs.declared.fault.HexCause.{HexCause}
 use Rattle.intel_hex.specs.declared.fault.HexCause.TheVariants.{BadRecord, NoEnd}

@@ -1,7 +1,6 @@
 -- The text of an image is read as the image.
 use Rattle.std.proofs.Common.{◌≡◌, ℕ, zero, suc, ◌+◌, ◌-◌, ◌*◌, ◌/◌, ◌%◌, ◌<◌, ◌≤◌, nat_le, Bool, true, false, if◌then◌else◌, List, [], ◌∷◌, ◌++◌, length, take, map, get_or, Option, Some, None, is_some, unwrap_or, Ok, refl, sym, ap, ◌∙◌, arith, All, slice_get, drop, append-nil, length-append, length-take}
 use Rattle.std.proofs.lemmas.Bool.Decides.{nat_tests}
-use Rattle.std.proofs.lemmas.List.{take_all}
 use Rattle.std.proofs.lemmas.List.FromFn.{fill_by_all}
 use Rattle.std.proofs.lemmas.Option.{slice_get_past, slice_get-get_or}
 use Rattle.std.specs.List.{range_with_len}
@@ -9,7 +8,7 @@ use Rattle.chip_tables.specs.declared.target.Target.{Target}
 use Rattle.chip_tables.specs.declared.target.Target.TheVariants.{F628, F877, Mega16, Interp, AnsiC}
 use Rattle.hex.specs.Hex.{encode_upper, upper_digits}
 use Rattle.hex.proofs.HexLemmas.{length-encode_with}
-use Rattle.ld_base.specs.Lines.{lines}
+use Rattle.texts.specs.Lines.{lines}
 use Rattle.intel_hex.specs.declared.image.Image.{Image}
 use Rattle.intel_hex.specs.declared.said.Said.{Said}
 use Rattle.intel_hex.specs.declared.said.Said.TheVariants.{Data, Upper, End}
@@ -19,7 +18,10 @@ use Rattle.intel_hex.specs.Image.{IsImage, IsConfig, word_limit}
 use Rattle.intel_hex.specs.Kept.{erased, word_of, word_at, word_count, config_of, image_of}
 use Rattle.intel_hex.specs.Record.{bytes_of, closing, line_of}
 use Rattle.intel_hex.specs.Text.{word_bytes, data_lines, record_count, upper_line, config_line, hex_text}
-use Rattle.intel_hex.specs.Verdict.{verdict, sayings, judged, is_long, hex_verdict}
+use Rattle.intel_hex.specs.Verdict.{verdict, sayings, hex_verdict}
+use Rattle.texts.specs.Limits.{judged, is_over}
+use Rattle.texts.specs.declared.limits.TheConstants.{FILE_BYTES}
+use Rattle.texts.proofs.LimitLemmas.{judged_all}
 use Rattle.intel_hex.proofs.RecordLemmas.{fits_cons}
 use Rattle.intel_hex.proofs.FilledLemmas.{Filled, one_read, data_read, data_passes, flash_small}
 use Rattle.intel_hex.proofs.TextLemmas.{length-word_bytes}
@@ -245,8 +247,8 @@ lines_read image fits =
 pub reads_back : (image : Image) → IsImage image → hex_verdict image.target (hex_text image) ≡ Ok image
 reads_back image fits =
     let size = text_length image fits in
-    let short : is_long (hex_text image) ≡ false = grind (arith, nat_tests) in
-    let whole : judged (hex_text image) ≡ hex_text image = take_all 8388609 (hex_text image) (omega arith) in
-    ap (λ b. verdict image.target [] (sayings b (lines (judged (hex_text image))))) short
+    let short : is_over FILE_BYTES (hex_text image) ≡ false = grind (arith, nat_tests) in
+    let whole = judged_all FILE_BYTES (hex_text image) (omega arith) in
+    ap (λ b. verdict image.target [] (sayings b (lines (judged FILE_BYTES (hex_text image))))) short
     ∙ ap (λ l. verdict image.target [] (sayings false (lines l))) whole
     ∙ lines_read image fits

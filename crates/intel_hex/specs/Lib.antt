@@ -1,9 +1,11 @@
+-- What a reader has to believe.
 pub mod Areas
-pub mod Given
 pub mod Image
-pub mod Kept
-pub mod Loaded
 pub mod Record
-pub mod Said
 pub mod Text
+pub mod Said
+pub mod Given
+pub mod Kept
 pub mod Verdict
+-- What the code of this crate keeps.
+pub mod Loaded

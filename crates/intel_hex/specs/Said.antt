@@ -1,6 +1,7 @@
 -- What a line of an Intel HEX file says by itself.
-use Rattle.std.specs.Prelude.{ℕ, ◌+◌, ◌*◌, ◌%◌, ◌==◌, Bool, if◌then◌else◌, List, [], ◌∷◌, length, reverse, take, sum, Option, Some, None, Result, Ok, Err}
+use Rattle.std.specs.Prelude.{ℕ, ◌+◌, ◌*◌, ◌%◌, ◌==◌, Bool, if◌then◌else◌, List, [], ◌∷◌, length, take, sum, Option, Some, None, Result, Ok, Err}
 use Rattle.hex.specs.Hex.{decode_of}
+use Rattle.texts.specs.Lines.{without_return}
 use Rattle.hex.specs.declared.error.FromHexError.{FromHexError}
 use Rattle.intel_hex.specs.declared.fault.HexCause.TheVariants.{BadRecord, BadSum}
 use Rattle.intel_hex.specs.declared.said.Said.{Said}
@@ -52,14 +53,6 @@ decoded (Err e) = Broken BadRecord
 abbrev pub marked : List ℕ → Said
 marked [] = Nothing
 marked (mark ∷ digits) = if mark == 58 then decoded (decode_of digits) else Broken BadRecord
-
--- without a carriage return (13) that stands first
-abbrev pub behind_return : List ℕ → List ℕ
-behind_return [] = []
-behind_return (b ∷ bytes) = if b == 13 then bytes else b ∷ bytes
-
-abbrev pub without_return : List ℕ → List ℕ
-without_return line = reverse (behind_return (reverse line))
 
 -- a carriage return at the end of a line does not count
 abbrev pub said_of : List ℕ → Said

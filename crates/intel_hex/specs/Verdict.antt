@@ -1,7 +1,9 @@
 -- What a text is read as: an image, or the first line with a fault.
-use Rattle.std.specs.Prelude.{◌≡◌, ℕ, ◌+◌, ◌==◌, ◌&&◌, nat_lt, Bool, if◌then◌else◌, List, [], ◌∷◌, length, take, Option, Some, None, Result, Ok, Err, ⊤}
+use Rattle.std.specs.Prelude.{◌≡◌, ℕ, ◌+◌, ◌==◌, ◌&&◌, Bool, if◌then◌else◌, List, [], ◌∷◌, length, Option, Some, None, Result, Ok, Err, ⊤}
 use Rattle.chip_tables.specs.declared.target.Target.{Target}
-use Rattle.ld_base.specs.Lines.{lines}
+use Rattle.texts.specs.Lines.{lines}
+use Rattle.texts.specs.Limits.{judged, is_over}
+use Rattle.texts.specs.declared.limits.TheConstants.{FILE_BYTES}
 use Rattle.intel_hex.specs.declared.image.Image.{Image}
 use Rattle.intel_hex.specs.declared.fault.HexCause.{HexCause}
 use Rattle.intel_hex.specs.declared.fault.HexCause.TheVariants.{BadRecord, NoEnd}
@@ -14,18 +16,7 @@ use Rattle.intel_hex.specs.Said.{said_of}
 use Rattle.intel_hex.specs.Given.{is_ended, given, fault_of}
 use Rattle.intel_hex.specs.Kept.{image_of}
 
--- how many bytes a text may have
-abbrev pub most_bytes : ℕ
-most_bytes = 8388608
-
--- the bytes by which a text is judged: the last line of a text that is longer holds the first byte past the limit
-abbrev pub judged : List ℕ → List ℕ
-judged text = take (most_bytes + 1) text
-
-abbrev pub is_long : List ℕ → Bool
-is_long text = nat_lt most_bytes (length text)
-
--- what the lines say; that with which a text is too long, the last here, is no record
+-- What the lines say. The last line of a text that is too long holds the first byte past the limit, and is no record.
 abbrev pub sayings : Bool → List (List ℕ) → List Said
 sayings long [] = []
 sayings long (line ∷ more) = (if long && (length more == 0) then Broken BadRecord else said_of line) ∷ sayings long more
@@ -41,7 +32,7 @@ verdict t before [] = if is_ended before then Ok (image_of t (given before)) els
 verdict t before (said ∷ more) = or_fault (length before + 1) (fault_of t before said) (verdict t (said ∷ before) more)
 
 abbrev pub hex_verdict : Target → List ℕ → Result Image HexFault
-hex_verdict t text = verdict t [] (sayings (is_long text) (lines (judged text)))
+hex_verdict t text = verdict t [] (sayings (is_over FILE_BYTES text) (lines (judged FILE_BYTES text)))
 
 -- why an error comes, where the text's verdict is this: want of memory may always be
 abbrev pub IsCause : Result Image HexFault → HexError → Type 0

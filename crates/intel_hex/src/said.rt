@@ -1,13 +1,14 @@
 //! What a line of a file says.
 
 ghost use Rattle.std.specs.Prelude.{◌≡◌, IfOk};
-ghost use Rattle.intel_hex.specs.Said.{said_of, said_by, kind_said, without_return};
+ghost use Rattle.intel_hex.specs.Said.{said_of, said_by, kind_said};
 
 use crate::fault::HexCause;
 use crate::record::{DATA_TYPE, END_TYPE, UPPER_TYPE, sum_of};
 use hex::FromHexError;
 use ld_base::list::List;
 use std::alloc::{AllocError, Global};
+use texts::lines::without_return;
 
 /// How many digits a record has at most: 255 bytes of data, and five more.
 const MOST_DIGITS: usize = 520;
@@ -41,16 +42,6 @@ pub fn read_line(alloc: Global, line: &[u8]) -> Result<Said, AllocError>
         Ok(bytes) => read_record(alloc, bytes.as_slice()),
         Err(FromHexError::OutOfMemory) => Err(AllocError),
         Err(_) => Ok(Said::Broken(HexCause::BadRecord)),
-    }
-}
-
-/// The line without the carriage return at its end.
-fn without_return(line: &[u8]) -> &[u8]
-    ensures { result.now ≡ without_return line.now }
-{
-    match line.split_last() {
-        Some((b'\r', front)) => front,
-        _ => line,
     }
 }
 

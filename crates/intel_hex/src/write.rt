@@ -10,9 +10,7 @@ use crate::record::{DATA_TYPE, END_TYPE, UPPER_TYPE, sum_of};
 use chip_tables::Target;
 use ld_base::list::List;
 use std::alloc::{AllocError, Global};
-
-/// Bytes of a text.
-pub type Text = List<u8>;
+use texts::Text;
 
 /// How many words stand in one record.
 const WORDS_IN_RECORD: usize = 8;
@@ -121,32 +119,4 @@ fn push_line(
     text.extend_from_slice(pairs.as_bytes())?;
     text.push(b'\n')?;
     Ok(())
-}
-
-#[cfg(test)]
-mod tests {
-    use super::*;
-    use std::test::Fail;
-
-    #[test]
-    fn writes_the_records_of_an_image(rt: HostRuntime) -> Result<(), Fail> {
-        let mega16 = Image {
-            target: Target::Mega16,
-            words: List::from_vec(vec![in rt.alloc(); 0xe70fu16]?),
-            config: None,
-        };
-        let text = write_hex(rt.alloc(), &mega16)?;
-        let want = b":020000000FE708\n:00000001FF\n";
-        assert_eq!(rt; text.as_slice(), want.as_slice());
-        let f628 = Image {
-            target: Target::F628,
-            words: List::from_vec(vec![in rt.alloc(); 0u16; 9]?),
-            config: Some(0x3f62),
-        };
-        let text = write_hex(rt.alloc(), &f628)?;
-        let want =
-            b":020000040000FA\n:1000000000000000000000000000000000000000F0\n:020010000000EE\n:02400E00623F0F\n:00000001FF\n";
-        assert_eq!(rt; text.as_slice(), want.as_slice());
-        Ok(())
-    }
 }

@@ -1,4 +1,3 @@
-pub mod DigitLemmas
 pub mod ValueLemmas
 pub mod WordLemmas
 pub mod NameLemmas

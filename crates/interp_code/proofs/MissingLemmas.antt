@@ -3,11 +3,10 @@ use Rattle.std.proofs.Common.{◌≡◌, ℕ, Bool, true, false, ◌||◌, if◌
 use Rattle.std.proofs.lemmas.List.Elements.{All-nil, All-cons}
 use Rattle.std.proofs.lemmas.List.Folds.{list_any-append}
 use Rattle.std.proofs.lemmas.Slice.Eq.{bytes_eq-Decides}
-use Rattle.std.proofs.lemmas.Int.{ints}
 use Rattle.std.specs.List.{list_any, list_all}
 use Rattle.std.specs.Str.{bytes_eq}
 use Rattle.interp_code.specs.Program.{differ_from, are_in}
-use Rattle.interp_code.specs.Ranges.{IsShort}
+use Rattle.int_code.specs.Literals.{IsNumber}
 use Rattle.interp_code.proofs.BoolLemmas.{and_left, and_right}
 
 -- the names that are no variables yet, each once
@@ -24,12 +23,9 @@ pub zeros_count : (ns : List (List ℕ)) → length (zeros ns) ≡ length ns
 zeros_count [] = refl
 zeros_count (n ∷ ns) = let rest = zeros_count ns in omega arith
 
-zero_short : IsShort (pos 0)
-zero_short = omega (arith, ints)
-
-pub zeros_short : (ns : List (List ℕ)) → All IsShort (zeros ns)
-zeros_short [] = All-nil IsShort
-zeros_short (n ∷ ns) = All-cons IsShort (pos 0) (zeros ns) zero_short (zeros_short ns)
+pub zeros_short : (ns : List (List ℕ)) → All IsNumber (zeros ns)
+zeros_short [] = All-nil IsNumber
+zeros_short (n ∷ ns) = All-cons IsNumber (pos 0) (zeros ns) refl (zeros_short ns)
 
 pub missing_differ : (vs ns : List (List ℕ)) → differ_from vs (missing vs ns) ≡ true
 missing_differ vs [] = refl

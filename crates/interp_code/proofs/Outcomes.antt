@@ -1,12 +1,15 @@
 -- What the reading of lines says of a text.
-use Rattle.std.proofs.Common.{◌≡◌, ◌⊎◌, ℕ, ◌+◌, ◌-◌, ◌<◌, ◌≤◌, Bool, true, false, if◌then◌else◌, nat_le, nat_lt, ◌==◌, List, [], ◌∷◌, ◌++◌, length, map, take, drop, Option, Some, None, ℤ, refl, sym, ap, ◌∙◌, subst, inl, inr, append_assoc, arith, length-append}
-use Rattle.std.proofs.lemmas.List.{map-append, append-nil, take-append-drop, length-map, take_all, length-take}
+use Rattle.std.proofs.Common.{◌≡◌, ◌⊎◌, ℕ, ◌+◌, ◌-◌, ◌<◌, ◌≤◌, Bool, true, false, if◌then◌else◌, nat_le, ◌==◌, List, [], ◌∷◌, ◌++◌, length, map, take, drop, Option, Some, None, ℤ, refl, sym, ap, ◌∙◌, subst, inl, inr, append_assoc, arith, length-append}
+use Rattle.std.proofs.lemmas.List.{map-append, append-nil, take-append-drop, length-map, length-take}
 use Rattle.std.proofs.Math.Seq.{take-append_seam}
 use Rattle.std.proofs.lemmas.Bool.Decides.{nat_tests}
 use Rattle.std.proofs.lemmas.Bool.{false≢true}
 use Rattle.std.specs.Option.{option_and_then}
-use Rattle.ld_base.specs.Lines.{onto, lines}
-use Rattle.ld_base.specs.Refusal.{Begins}
+use Rattle.texts.specs.Lines.{onto, lines}
+use Rattle.texts.specs.Limits.{judged, is_over}
+use Rattle.texts.specs.declared.limits.TheConstants.{CODE_BYTES}
+use Rattle.texts.specs.Refusal.{Begins}
+use Rattle.texts.proofs.LimitLemmas.{judged_all}
 use Rattle.interp_code.specs.declared.program.InterpProgram.{InterpProgram}
 use Rattle.interp_code.specs.declared.reader.Stage.{Stage}
 use Rattle.interp_code.specs.declared.reader.Stage.TheVariants as stage
@@ -18,7 +21,7 @@ use Rattle.interp_code.specs.Text.{variables, line_text}
 use Rattle.interp_code.specs.Program.{are_in, Says, IsProgram, most_operations, most_bits}
 use Rattle.ladder_tree.specs.declared.names.Names.{Names}
 use Rattle.ladder_tree.specs.Names.{is_name_within}
-use Rattle.interp_code.specs.Refused.{operations_of, operations_in, IsBegun, IsRefusedAt, most_bytes, judged}
+use Rattle.interp_code.specs.Refused.{operations_of, operations_in, IsBegun, IsRefusedAt}
 use Rattle.interp_code.specs.Draft.{Draft, Takes, is_ended, start, step, step_line, read}
 use Rattle.interp_code.specs.Held.{name_count, program_of}
 use Rattle.interp_code.specs.Outcome.{IsStopped}
@@ -365,23 +368,32 @@ lines_some (b ∷ bs) some = by (b == 10)
     by true = omega arith
     by false = front_some (lines bs)
 
-pub judged_all : (text : List ℕ) → length text ≤ most_bytes → judged text ≡ text
-judged_all text h = take_all (most_bytes + 1) text (omega arith)
+judged_some : (text : List ℕ) → CODE_BYTES < length text → 0 < length (judged CODE_BYTES text)
+judged_some text h = let size = length-take (CODE_BYTES + 1) text in omega (arith, size)
 
-judged_some : (text : List ℕ) → most_bytes < length text → 0 < length (judged text)
-judged_some text h = let size = length-take (most_bytes + 1) text in omega (arith, size)
-
-pub long_text : (text : List ℕ) (d : Draft) (n : ℕ) → most_bytes < length text → read start (lines (judged text)) ≡ Some d → length d.ops ≤ most_operations → n ≡ length (lines (judged text)) → IsRefusedAt (nat_lt most_bytes (length text)) (lines (judged text)) n
-long_text text d n over h few e = rw (is_over, e) (long_refused (lines (judged text)) d (lines_some (judged text) (judged_some text over)) h few)
+pub long_text : (text : List ℕ) (d : Draft) (n : ℕ) → CODE_BYTES < length text → read start (lines (judged CODE_BYTES text)) ≡ Some d → length d.ops ≤ most_operations
+    → n ≡ length (lines (judged CODE_BYTES text)) → IsRefusedAt (is_over CODE_BYTES text) (lines (judged CODE_BYTES text)) n
+long_text text d n over h few e =
+    let ls = lines (judged CODE_BYTES text) in
+    rw (over_it, e) (long_refused ls d (lines_some (judged CODE_BYTES text) (judged_some text over)) h few)
   where
-    is_over : nat_lt most_bytes (length text) ≡ true
-    is_over = grind (arith, nat_tests)
+    over_it : is_over CODE_BYTES text ≡ true
+    over_it = grind (arith, nat_tests)
 
-pub short_text : (text : List ℕ) (d : Draft) (n : ℕ) → length text ≤ most_bytes → read start (lines (judged text)) ≡ Some d → length d.ops ≤ most_operations → is_ended d.stage ≡ false → n ≡ length (lines (judged text)) → IsRefusedAt (nat_lt most_bytes (length text)) (lines (judged text)) (n + 1)
-short_text text d n within h few open_end e = rw (not_over, e) (short_refused (lines (judged text)) d h few open_end)
+pub short_text : (text : List ℕ) (d : Draft) (n : ℕ) → length text ≤ CODE_BYTES → read start (lines (judged CODE_BYTES text)) ≡ Some d → length d.ops ≤ most_operations → is_ended d.stage ≡ false
+    → n ≡ length (lines (judged CODE_BYTES text)) → IsRefusedAt (is_over CODE_BYTES text) (lines (judged CODE_BYTES text)) (n + 1)
+short_text text d n within h few open_end e = rw (not_over, e) (short_refused (lines (judged CODE_BYTES text)) d h few open_end)
   where
-    not_over : nat_lt most_bytes (length text) ≡ false
+    not_over : is_over CODE_BYTES text ≡ false
     not_over = grind (arith, nat_tests)
 
-pub whole_text : (text : List ℕ) (d : Draft) → length text ≤ most_bytes → read start (lines (judged text)) ≡ Some d → length d.ops ≤ most_operations → is_ended d.stage ≡ true → IsProgram (lines text) (program_of d)
-whole_text text d within h few end_read = whole_read (lines text) d (ap (λ t. read start (lines t)) (sym (judged_all text within)) ∙ h) few end_read
+-- a text of which all lines were read is refused at its last, or behind it
+pub behind_refused : (text : List ℕ) (d : Draft) (n line : ℕ) → read start (lines (judged CODE_BYTES text)) ≡ Some d → length d.ops ≤ most_operations → n ≡ length (lines (judged CODE_BYTES text))
+    → ((CODE_BYTES < length text) × (line ≡ n)) ⊎ ((length text ≤ CODE_BYTES) × (is_ended d.stage ≡ false) × (line ≡ n + 1))
+    → IsRefusedAt (is_over CODE_BYTES text) (lines (judged CODE_BYTES text)) line
+behind_refused text d n line h few e (inl long) = rw long.1 (long_text text d n long.0 h few e)
+behind_refused text d n line h few e (inr early) = rw early.2 (short_text text d n early.0 h few early.1 e)
+
+pub whole_text : (text : List ℕ) (d : Draft) → length text ≤ CODE_BYTES → read start (lines (judged CODE_BYTES text)) ≡ Some d → length d.ops ≤ most_operations → is_ended d.stage ≡ true
+    → IsProgram (lines text) (program_of d)
+whole_text text d within h few end_read = whole_read (lines text) d (ap (λ t. read start (lines t)) (sym (judged_all CODE_BYTES text within)) ∙ h) few end_read

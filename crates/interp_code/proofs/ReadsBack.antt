@@ -1,21 +1,23 @@
 -- A line that is written reads back.
 use Rattle.std.proofs.Common.{◌≡◌, ℕ, ◌<◌, ◌≤◌, Bool, true, not, ◌==◌, false, nat_le, List, [], ◌∷◌, ◌++◌, length, get_or, map, Some, ℤ, refl, ap, ◌∙◌, arith, All, codes, append_assoc}
 use Rattle.std.proofs.lemmas.Bool.Decides.{nat_tests}
+use Rattle.std.proofs.lemmas.Bool.{leb-true}
 use Rattle.std.proofs.lemmas.List.{append-nil}
 use Rattle.std.proofs.lemmas.List.Sums.{AllPass-from_list_all}
 use Rattle.std.proofs.lemmas.List.Folds.{list_all-append}
 use Rattle.std.proofs.lemmas.List.Elements.{All-head, All-tail}
+use Rattle.std.specs.Option.{option_and_then}
 use Rattle.std.specs.List.{list_all}
 use Rattle.std.specs.Fmt.{decimal, signed_decimal}
-use Rattle.ld_base.specs.Lines.{pieces}
+use Rattle.texts.specs.Lines.{pieces}
 use Rattle.ladder_tree.specs.Names.{is_name_within}
 use Rattle.int_code.specs.declared.op.NumSource.{NumSource}
 use Rattle.int_code.specs.declared.op.IntOp.{IntOp}
 use Rattle.int_code.specs.declared.op.IntOp.TheVariants.{Set, Clr, Cpy, Not, Ifs, Ifc, Iflt, Ifeq, Ifee, Els, Fi, Lit, Mov, Add, Sub, Mul, Div, Inc, Dec, Adc, Pwm, Rx, Tx, Eebusy, Eerd, Eewr, Tab}
 use Rattle.int_code.specs.Text.{dest_text, source_text, variable_text, number_text, values_text}
 use Rattle.int_code.specs.WellFormed.{Sizes, IsNumSource, IsInRange, most_values}
-use Rattle.interp_code.specs.Line.{Line, Magic, Cycle, Input, Output, Analog, Variable, Relay, Persistent, BitCount, Code, Operation, End, most_count, integers, values_of, table_of, op_of, line_of}
-use Rattle.interp_code.specs.Ranges.{IsShort, IsShortSource, HasShorts}
+use Rattle.interp_code.specs.Line.{Line, Magic, Cycle, Input, Output, Analog, Variable, Relay, Persistent, BitCount, Code, Operation, End, most_count, integers, counted, table_of, op_of, line_of}
+use Rattle.int_code.specs.Literals.{most_hertz, IsNumber, HoldsNumber, HoldsNumbers}
 use Rattle.interp_code.specs.Text.{line_text}
 use Rattle.interp_code.proofs.SpelledWords.{lacks, IsClean, IsSmall, piece_cut, piece_end, name_spells, number_spells, index_spells, integer_spells, dest_spells, source_spells, variable_spells, source_number_spells}
 use Rattle.interp_code.proofs.BoolLemmas.{and_left, and_right}
@@ -95,31 +97,31 @@ relay_reads n h = let k = name_spells n h in one_reads (Relay n) (codes "relay")
 pub persistent_reads : (n : List ℕ) → is_name_within 66 n ≡ true → Reads (Persistent n)
 persistent_reads n h = let k = name_spells n h in one_reads (Persistent n) (codes "persist") n refl (literal (codes "persist") refl) k.clean (rw k.of refl)
 
-pub variable_reads : (n : List ℕ) (value : ℤ) → is_name_within 66 n ≡ true → IsShort value → Reads (Variable n value)
+pub variable_reads : (n : List ℕ) (value : ℤ) → is_name_within 66 n ≡ true → IsNumber value → Reads (Variable n value)
 variable_reads n value h short =
     let k = name_spells n h in
     let v = integer_spells value short in
     two_reads (Variable n value) (codes "var") n (signed_decimal value) refl (literal (codes "var") refl) k.clean v.clean (rw (k.of, v.of) refl)
 
 -- the values of a table
-values_pieces : (word : List ℕ) (values : List ℤ) → IsClean word → All IsShort values → pieces 32 (word ++ values_text values) ≡ word ∷ map signed_decimal values
+values_pieces : (word : List ℕ) (values : List ℤ) → IsClean word → All IsNumber values → pieces 32 (word ++ values_text values) ≡ word ∷ map signed_decimal values
 values_pieces word [] w h = rw append-nil (piece_end word w)
 values_pieces word (n ∷ ns) w h =
-    let first = integer_spells n (All-head IsShort n ns h) in
-    piece_cut word (signed_decimal n ++ values_text ns) w ∙ ap (λ ws. word ∷ ws) (values_pieces (signed_decimal n) ns first.clean (All-tail IsShort n ns h))
+    let first = integer_spells n (All-head IsNumber n ns h) in
+    piece_cut word (signed_decimal n ++ values_text ns) w ∙ ap (λ ws. word ∷ ws) (values_pieces (signed_decimal n) ns first.clean (All-tail IsNumber n ns h))
 
-values_clean : (values : List ℤ) → All IsShort values → lacks 10 (values_text values) ≡ true
+values_clean : (values : List ℤ) → All IsNumber values → lacks 10 (values_text values) ≡ true
 values_clean [] h = refl
 values_clean (n ∷ ns) h =
-    let first = integer_spells n (All-head IsShort n ns h) in
-    list_all-append (λ b. not (b == 10)) (signed_decimal n) (values_text ns) ∙ rw (first.clean 10 (omega arith), values_clean ns (All-tail IsShort n ns h)) refl
+    let first = integer_spells n (All-head IsNumber n ns h) in
+    list_all-append (λ b. not (b == 10)) (signed_decimal n) (values_text ns) ∙ rw (first.clean 10 (omega arith), values_clean ns (All-tail IsNumber n ns h)) refl
 
-integers_read : (values : List ℤ) → All IsShort values → integers (map signed_decimal values) ≡ Some values
+integers_read : (values : List ℤ) → All IsNumber values → integers (map signed_decimal values) ≡ Some values
 integers_read [] h = refl
-integers_read (n ∷ ns) h = rw ((integer_spells n (All-head IsShort n ns h)).of, integers_read ns (All-tail IsShort n ns h)) refl
+integers_read (n ∷ ns) h = rw ((integer_spells n (All-head IsNumber n ns h)).of, integers_read ns (All-tail IsNumber n ns h)) refl
 
-values_read : (values : List ℤ) → All IsShort values → length values ≤ most_values → values_of (decimal (length values)) (map signed_decimal values) ≡ Some values
-values_read values h few = rw ((number_spells most_values (length values) few (omega arith)).of, integers_read values h, same) refl
+values_read : (values : List ℤ) → All IsNumber values → option_and_then (counted (length values)) (integers (map signed_decimal values)) ≡ Some values
+values_read values h = rw (integers_read values h, same) refl
   where
     same : (length values == length values) ≡ true
     same = grind (arith, nat_tests)
@@ -136,7 +138,7 @@ table_text : (v : ℕ) (w : NumSource) (values : List ℤ) → line_text (Operat
 table_text v w values = simp append_assoc
 
 module _ (n : Sizes) (small : IsSmall n) where
-  table_reads : (v : ℕ) (w : NumSource) (values : List ℤ) → v < n.variables → IsNumSource n w → length values ≤ most_values → IsShortSource w → All IsShort values → Reads (Operation (Tab v w values))
+  table_reads : (v : ℕ) (w : NumSource) (values : List ℤ) → v < n.variables → IsNumSource n w → length values ≤ most_values → HoldsNumber w → All IsNumber values → Reads (Operation (Tab v w values))
   table_reads v w values hv hw few short all =
       let a = variable_spells n small v hv in
       let b = source_number_spells n small w hw short in
@@ -148,11 +150,11 @@ module _ (n : Sizes) (small : IsSmall n) where
       words_read (Operation (Tab v w values)) (codes "tab" ∷ (variable_text v ∷ (number_text w ∷ (decimal (length values) ∷ map signed_decimal values))))
       (ap (pieces 32) (table_text v w values)
       ∙ piece_cut (codes "tab") variable tab ∙ ap (λ ws. codes "tab" ∷ ws) (piece_cut (variable_text v) number a.clean ∙ ap (λ ws. variable_text v ∷ ws) (piece_cut (number_text w) count b.clean ∙ ap (λ ws. number_text w ∷ ws) (values_pieces (decimal (length values)) values c.clean all))))
-      (table_says (variable_text v) (number_text w) (decimal (length values)) (map signed_decimal values) (Tab v w values) (rw (a.of, b.of, values_read values all few) refl))
+      (table_says (variable_text v) (number_text w) (decimal (length values)) (map signed_decimal values) (Tab v w values) (rw (a.of, b.of, c.of, values_read values all) refl))
       (ap (lacks 10) (table_text v w values) ∙ spaced (codes "tab") variable tab (spaced (variable_text v) number a.clean (spaced (number_text w) count b.clean
       (list_all-append (λ x. not (x == 10)) (decimal (length values)) (values_text values) ∙ rw (c.clean 10 (omega arith), values_clean values all) refl))))
 
-  pub op_reads : (op : IntOp) → IsInRange n op → HasShorts op → Reads (Operation op)
+  pub op_reads : (op : IntOp) → IsInRange n op → HoldsNumbers op → Reads (Operation op)
   op_reads (Set b) h short =
       let b_word = dest_spells n small b h in
       one_reads (Operation (Set b)) (codes "set") (dest_text b) refl (literal (codes "set") refl) b_word.clean (rw b_word.of refl)
@@ -227,7 +229,8 @@ module _ (n : Sizes) (small : IsSmall n) where
       two_reads (Operation (Adc v k)) (codes "adc") (variable_text v) (decimal k) refl (literal (codes "adc") refl) v_word.clean k_word.clean (rw (v_word.of, k_word.of) refl)
   op_reads (Pwm w hz) h short =
       let w_word = source_number_spells n small w h short.0 in
-      let hz_word = number_spells most_count hz (omega (arith, short.1)) (omega (arith, short.1)) in
+      let few = leb-true hz most_hertz short.1 in
+      let hz_word = number_spells most_count hz (omega (arith, few)) (omega (arith, few)) in
       two_reads (Operation (Pwm w hz)) (codes "pwm") (number_text w) (decimal hz) refl (literal (codes "pwm") refl) w_word.clean hz_word.clean (rw (w_word.of, hz_word.of) refl)
   op_reads (Rx v b) h short =
       let v_word = variable_spells n small v h.0 in

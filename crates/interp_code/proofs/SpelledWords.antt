@@ -1,5 +1,6 @@
 -- A word that is written reads back.
-use Rattle.std.proofs.Common.{◌≡◌, ◌≢◌, ℕ, suc, ◌^◌, ◌<◌, ◌≤◌, Bool, true, false, not, ◌==◌, nat_le, List, [], ◌∷◌, ◌++◌, length, Option, Some, ℤ, pos, negsuc, refl, ap, ◌∙◌, arith, rules, All}
+use Rattle.std.proofs.Common.{◌≡◌, ◌≢◌, ℕ, suc, ◌^◌, ◌<◌, ◌≤◌, Bool, true, false, not, ◌==◌, nat_le, List, [], ◌∷◌, ◌++◌, length, Option, Some, ℤ, pos, negsuc, int_le, FitsSigned, refl, ap, ◌∙◌, arith, rules, All}
+use mir.Syntax.{w16}
 use Rattle.std.proofs.lemmas.Bool.Decides.{nat_tests}
 use Rattle.std.proofs.lemmas.Bool.{false≢true}
 use Rattle.std.proofs.lemmas.List.Sums.{AllPass-from_list_all}
@@ -10,9 +11,10 @@ use Rattle.std.proofs.lemmas.Int.{ints}
 use Rattle.std.specs.Option.{option_map}
 use Rattle.std.specs.List.{list_all}
 use Rattle.std.specs.Fmt.{decimal, signed_decimal}
-use Rattle.ld_base.specs.Lines.{pieces}
-use Rattle.ld_base.proofs.LineLemmas.{pieces-piece, pieces-last}
-use Rattle.ladder_tree.specs.Names.{is_digit, is_name_byte, is_name_within}
+use Rattle.texts.specs.Lines.{pieces}
+use Rattle.texts.proofs.LineLemmas.{pieces-piece, pieces-last}
+use Rattle.ladder_tree.specs.Names.{is_name_byte, is_name_within}
+use Rattle.texts.specs.Digits.{is_digit, value_behind, digits_to}
 use Rattle.int_code.specs.declared.op.BitDest.{BitDest}
 use Rattle.int_code.specs.declared.op.BitDest.TheVariants as dest
 use Rattle.int_code.specs.declared.op.BitSource.{BitSource}
@@ -21,8 +23,8 @@ use Rattle.int_code.specs.declared.op.NumSource.{NumSource}
 use Rattle.int_code.specs.declared.op.NumSource.TheVariants.{V, N}
 use Rattle.int_code.specs.Text.{dest_text, source_text, variable_text, number_text}
 use Rattle.int_code.specs.WellFormed.{Sizes, IsDest, IsSource, IsNumSource}
-use Rattle.interp_code.specs.Line.{most_count, value_behind, digits_to, number_to, integer, index, name, dest_of, source_of, variable_of, number_of}
-use Rattle.interp_code.specs.Ranges.{IsShort, IsShortSource}
+use Rattle.interp_code.specs.Line.{most_count, number_to, integer, index, name, dest_of, source_of, variable_of, number_of}
+use Rattle.int_code.specs.Literals.{IsNumber, HoldsNumber}
 use Rattle.interp_code.proofs.BoolLemmas.{and_left, and_right}
 
 pub own : IsNumeralModel (λ ds. list_all is_digit ds ≡ true) (value_behind 0)
@@ -130,16 +132,27 @@ index_spells n k h small = record {
   clean = digits_clean (decimal k) (decimal_digits k (omega arith));
 }
 
-short_pos : (n : ℕ) → IsShort (pos n) → n ≤ 32767
-short_pos n h = omega (arith, ints, h)
+-- a number of 16 bits with a sign
+pub number_fits : (n : ℤ) → FitsSigned w16 n → IsNumber n
+number_fits (pos n) h = let few : n ≤ 32767 = omega (arith, ints, h) in grind (arith, ints, nat_tests)
+number_fits (negsuc n) h = let few : n ≤ 32767 = omega (arith, ints, h) in grind (arith, ints, nat_tests)
 
-short_negsuc : (n : ℕ) → IsShort (negsuc n) → suc n ≤ 32768
-short_negsuc n h = omega (arith, ints, h)
+short_pos_by : (n : ℕ) → int_le (pos n) (pos 32767) ≡ true → n ≤ 32767
+short_pos_by n h = grind (arith, ints, nat_tests)
+
+short_pos : (n : ℕ) → IsNumber (pos n) → n ≤ 32767
+short_pos n h = short_pos_by n (and_right (int_le (negsuc 32767) (pos n)) (int_le (pos n) (pos 32767)) h)
+
+short_negsuc_by : (n : ℕ) → int_le (negsuc 32767) (negsuc n) ≡ true → suc n ≤ 32768
+short_negsuc_by n h = grind (arith, ints, nat_tests)
+
+short_negsuc : (n : ℕ) → IsNumber (negsuc n) → suc n ≤ 32768
+short_negsuc n h = short_negsuc_by n (and_left (int_le (negsuc 32767) (negsuc n)) (int_le (negsuc n) (pos 32767)) h)
 
 minus_clean : (ds : List ℕ) → IsClean ds → IsClean (45 ∷ ds)
 minus_clean ds h = λ s low. let other : (45 == s) ≡ false = grind (arith, nat_tests) in rw (other, h s low) refl
 
-pub integer_spells : (n : ℤ) → IsShort n → Spells integer (signed_decimal n) n
+pub integer_spells : (n : ℤ) → IsNumber n → Spells integer (signed_decimal n) n
 integer_spells (pos n) h =
     let small = short_pos n h in record {
       of = integer_is_digits (decimal n) (decimal_digits n (omega arith)) ∙ ap (option_map pos) (decimal_read 32767 n small (omega arith));
@@ -184,7 +197,7 @@ module _ (n : Sizes) (small : IsSmall n) where
       let number = index_spells n.variables v h small.variables in
       record { of = number.of; clean = letter_clean 118 (decimal v) (omega arith) number.clean }
 
-  pub source_number_spells : (w : NumSource) → IsNumSource n w → IsShortSource w → Spells number_of (number_text w) w
+  pub source_number_spells : (w : NumSource) → IsNumSource n w → HoldsNumber w → Spells number_of (number_text w) w
   source_number_spells (V v) h short = lettered number_of V 118 n.variables v (omega arith) h small.variables refl
   source_number_spells (N (pos k)) h short =
       let number = integer_spells (pos k) short in

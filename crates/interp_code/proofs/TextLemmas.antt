@@ -5,7 +5,7 @@ use Rattle.std.specs.Fmt.{signed_decimal}
 use Rattle.ladder_tree.specs.declared.names.Names.{Names}
 use Rattle.int_code.specs.declared.op.IntProgram.{IntProgram}
 use Rattle.int_code.specs.Text.{op_words}
-use Rattle.ld_base.specs.Lines.{joined}
+use Rattle.texts.specs.Lines.{joined}
 use Rattle.interp_code.specs.Line.{Line, Magic, Cycle, Input, Output, Analog, Variable, Relay, Persistent, BitCount, Code, Operation, End}
 use Rattle.interp_code.specs.Text.{line_text, variables, interp_text}
 use Rattle.interp_code.specs.Written.{name_lines}

@@ -2,15 +2,15 @@
 use Rattle.std.proofs.Common.{◌≡◌, ℕ, true, List, [], ◌∷◌, ◌++◌, map, ℤ, Some, refl, ap, ◌∙◌, append_assoc, arith, All}
 use Rattle.std.proofs.lemmas.List.Elements.{All-head, All-tail}
 use Rattle.std.specs.List.{list_all}
-use Rattle.ld_base.specs.Lines.{lines, joined}
-use Rattle.ld_base.proofs.LineLemmas.{lines-line}
+use Rattle.texts.specs.Lines.{lines, joined}
+use Rattle.texts.proofs.LineLemmas.{lines-line}
 use Rattle.ladder_tree.specs.declared.names.Names.{Names}
 use Rattle.ladder_tree.specs.Names.{is_name_within}
 use Rattle.int_code.specs.declared.op.IntOp.{IntOp}
 use Rattle.int_code.specs.declared.op.IntProgram.{IntProgram}
 use Rattle.int_code.specs.WellFormed.{Sizes, IsInRange, sizes_of}
 use Rattle.interp_code.specs.Line.{Line, Input, Output, Analog, Relay, Persistent, Operation, End, line_of}
-use Rattle.interp_code.specs.Ranges.{IsShort, HasShorts}
+use Rattle.int_code.specs.Literals.{IsNumber, HoldsNumbers}
 use Rattle.interp_code.specs.Text.{variables, line_text, spelled, interp_text}
 use Rattle.interp_code.specs.Program.{IsWritable, IsProgram, read_as}
 use Rattle.interp_code.proofs.BoolLemmas.{and_left, and_right}
@@ -30,23 +30,22 @@ names_read : (f : List ℕ → Line) → ((n : List ℕ) → is_name_within 66 n
 names_read f each [] h = tt
 names_read f each (n ∷ ns) h = (each n (and_left (is_name_within 66 n) (list_all (is_name_within 66) ns) h), names_read f each ns (and_right (is_name_within 66 n) (list_all (is_name_within 66) ns) h))
 
-pub variables_read : (ns : List (List ℕ)) (values : List ℤ) → list_all (is_name_within 66) ns ≡ true → All IsShort values → AllRead (variables ns values)
+pub variables_read : (ns : List (List ℕ)) (values : List ℤ) → list_all (is_name_within 66) ns ≡ true → All IsNumber values → AllRead (variables ns values)
 variables_read [] values h short = tt
 variables_read (n ∷ ns) [] h short = tt
 variables_read (n ∷ ns) (v ∷ vs) h short = (
-  variable_reads n v (and_left (is_name_within 66 n) (list_all (is_name_within 66) ns) h) (All-head IsShort v vs short),
-  variables_read ns vs (and_right (is_name_within 66 n) (list_all (is_name_within 66) ns) h) (All-tail IsShort v vs short),
+  variable_reads n v (and_left (is_name_within 66 n) (list_all (is_name_within 66) ns) h) (All-head IsNumber v vs short),
+  variables_read ns vs (and_right (is_name_within 66 n) (list_all (is_name_within 66) ns) h) (All-tail IsNumber v vs short),
 )
 
-ops_read : (n : Sizes) → IsSmall n → (ops : List IntOp) → All (IsInRange n) ops → All HasShorts ops → AllRead (map Operation ops)
+ops_read : (n : Sizes) → IsSmall n → (ops : List IntOp) → All (IsInRange n) ops → All HoldsNumbers ops → AllRead (map Operation ops)
 ops_read n small [] h short = tt
-ops_read n small (op ∷ ops) h short = (op_reads n small op (All-head (IsInRange n) op ops h) (All-head HasShorts op ops short), ops_read n small ops (All-tail (IsInRange n) op ops h) (All-tail HasShorts op ops short))
+ops_read n small (op ∷ ops) h short = (op_reads n small op (All-head (IsInRange n) op ops h) (All-head HoldsNumbers op ops short), ops_read n small ops (All-tail (IsInRange n) op ops h) (All-tail HoldsNumbers op ops short))
 
 -- a program as the code holds it: its numbers are in the ranges of their types
 pub record IsHeld (program : IntProgram) : Type 0 where
   pub sizes : IsSmall (sizes_of program)
-  pub starts : All IsShort program.starts
-  pub ops : All HasShorts program.ops
+  pub starts : All IsNumber program.starts
 
 pub spelled_reads : (cycle : ℕ) (names : Names) (program : IntProgram) → IsWritable cycle names program → IsHeld program → AllRead (spelled cycle names program)
 spelled_reads cycle names program w held = (
@@ -62,7 +61,7 @@ spelled_reads cycle names program w held = (
           bits_reads program.bits (omega (arith, w.sound.few_bits)),
           (
             code_reads,
-            AllRead-append (map Operation program.ops) (End ∷ []) (ops_read (sizes_of program) held.sizes program.ops w.sound.well_formed.range held.ops) (end_reads, tt),
+            AllRead-append (map Operation program.ops) (End ∷ []) (ops_read (sizes_of program) held.sizes program.ops w.sound.well_formed.range w.numbers) (end_reads, tt),
           ),
         )))))),
   ),

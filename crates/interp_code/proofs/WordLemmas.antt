@@ -1,7 +1,7 @@
 -- What a line says by its words.
 use Rattle.std.proofs.Common.{◌≡◌, ℕ, Bool, true, false, if◌then◌else◌, ◌==◌, List, [], ◌∷◌, Option, Some, Bor, refl, ap}
 use Rattle.std.specs.Option.{option_map, option_or}
-use Rattle.ld_base.specs.Lines.{onto, pieces}
+use Rattle.texts.specs.Lines.{onto, pieces}
 use Rattle.interp_code.specs.Said.{words_of}
 use Rattle.interp_code.specs.Line.{Line, Operation, op_of, table_of, head_of}
 

@@ -1,7 +1,10 @@
 -- What a text says can be written.
-use Rattle.std.proofs.Common.{◌≡◌, ℕ, true, List, [], ◌∷◌, ◌++◌, length, map, Some, ℤ, refl, ◌∙◌, arith}
+use Rattle.std.proofs.Common.{◌≡◌, ℕ, true, List, [], ◌∷◌, ◌++◌, length, map, Some, ℤ, refl, ◌∙◌, arith, All}
+use Rattle.std.proofs.lemmas.List.Elements.{All-nil, All-cons}
 use Rattle.std.specs.List.{list_all}
 use Rattle.ladder_tree.specs.Names.{is_name_within}
+use Rattle.int_code.specs.declared.op.IntOp.{IntOp}
+use Rattle.int_code.specs.Literals.{HoldsNumbers}
 use Rattle.interp_code.specs.declared.program.InterpProgram.{InterpProgram}
 use Rattle.interp_code.specs.Line.{Line, Input, Output, Analog, Relay, Persistent, BitCount, Code, Operation, End, line_of}
 use Rattle.interp_code.specs.Text.{variables, spelled}
@@ -36,6 +39,10 @@ front_variables [] values rest same h = refl
 front_variables (n ∷ ns) [] rest same h = absurd (omega arith)
 front_variables (n ∷ ns) (v ∷ vs) rest same h = rw h.0 (front_variables ns vs rest (omega arith) h.1)
 
+front_ops : (ops : List IntOp) (rest : List Line) → AllInForm (map Operation ops ++ rest) → All HoldsNumbers ops
+front_ops [] rest h = All-nil HoldsNumbers
+front_ops (op ∷ ops) rest h = All-cons HoldsNumbers op ops h.0 (front_ops ops rest h.1)
+
 pub writable : (ls : List (List ℕ)) (p : InterpProgram) → IsProgram ls p → IsWritable p.cycle p.names p.program
 writable ls p h = record {
   sound = h.says.sound;
@@ -47,6 +54,7 @@ writable ls p h = record {
   persistent = front_names Persistent (λ n k. k) p.names.persistent bits persistent_form;
   timed = forms.1.0;
   few = h.few;
+  numbers = front_ops p.program.ops (End ∷ []) ops_form;
 }
   where
     bits : List Line
@@ -90,3 +98,9 @@ writable ls p h = record {
 
     persistent_form : AllInForm persistent
     persistent_form = behind (map Relay p.names.relays) persistent relays_form
+
+    bits_form : AllInForm bits
+    bits_form = behind (map Persistent p.names.persistent) bits persistent_form
+
+    ops_form : AllInForm (map Operation p.program.ops ++ End ∷ [])
+    ops_form = bits_form.1.1

@@ -1,10 +1,10 @@
 -- The lines of an interpretable text: what each says, by its words.
-use Rattle.std.specs.Prelude.{ℕ, ◌+◌, ◌-◌, ◌*◌, ◌^◌, ◌&&◌, ◌==◌, List, [], ◌∷◌, length, ℤ, pos, neg_ℤ, Option, None, Some, nat_le, codes, if◌then◌else◌}
+use Rattle.std.specs.Prelude.{ℕ, ◌-◌, ◌^◌, ◌==◌, List, [], ◌∷◌, length, ℤ, pos, neg_ℤ, Option, None, Some, codes, if◌then◌else◌}
 use Rattle.std.specs.Option.{option_map, option_and_then, option_or}
-use Rattle.std.specs.List.{list_all}
 use Rattle.std.specs.Str.{bytes_eq}
-use Rattle.ld_base.specs.Lines.{pieces}
-use Rattle.ladder_tree.specs.Names.{is_digit, is_name_within}
+use Rattle.texts.specs.Lines.{pieces}
+use Rattle.ladder_tree.specs.Names.{is_name_within}
+use Rattle.texts.specs.Digits.{digits_to}
 use Rattle.int_code.specs.declared.op.BitDest.{BitDest}
 use Rattle.int_code.specs.declared.op.BitDest.TheVariants as dest
 use Rattle.int_code.specs.declared.op.BitSource.{BitSource}
@@ -29,16 +29,6 @@ pub data Line : Type 0 where
   Code : Line
   Operation : IntOp → Line
   End : Line
-
--- the number that decimal digits write behind those of n
-abbrev pub value_behind : ℕ → List ℕ → ℕ
-value_behind n [] = n
-value_behind n (c ∷ cs) = value_behind (10 * n + (c - 48)) cs
-
--- one digit or more that write a number of at most so much; leading zeros are digits
-abbrev pub digits_to : ℕ → List ℕ → Option ℕ
-digits_to most [] = None
-digits_to most (c ∷ cs) = if list_all is_digit (c ∷ cs) && nat_le (value_behind 0 (c ∷ cs)) most then Some (value_behind 0 (c ∷ cs)) else None
 
 -- A number may have - (45) in front. In a range that begins at 0 it is then 0.
 abbrev pub number_to : ℕ → List ℕ → Option ℕ
@@ -89,11 +79,18 @@ abbrev pub number_of : List ℕ → Option NumSource
 number_of [] = None
 number_of (c ∷ cs) = if c == 118 then option_map V (index cs) else option_map N (integer (c ∷ cs))
 
+-- what two and three words say together
+abbrev pub both : {A B : Type 0} → Option A → Option B → Option (A × B)
+both a b = option_and_then (λ x. option_map (λ y. (x, y)) b) a
+
+abbrev pub all_three : {A B C : Type 0} → Option A → Option B → Option C → Option (A × B × C)
+all_three a b c = option_and_then (λ x. option_and_then (λ y. option_map (λ z. (x, y, z)) c) b) a
+
 abbrev pub with_two : {A B C : Type 0} → (A → B → C) → Option A → Option B → Option C
-with_two f a b = option_and_then (λ x. option_map (f x) b) a
+with_two f a b = option_map (λ p. f p.0 p.1) (both a b)
 
 abbrev pub with_three : {A B C D : Type 0} → (A → B → C → D) → Option A → Option B → Option C → Option D
-with_three f a b c = option_and_then (λ x. with_two (f x) b c) a
+with_three f a b c = option_map (λ p. f p.0 p.1 p.2) (all_three a b c)
 
 -- the operations by how many words stand behind the first
 abbrev pub op_alone : List ℕ → Option IntOp
@@ -101,30 +98,39 @@ op_alone word =
     if bytes_eq word (codes "els") then Some Els
     else (if bytes_eq word (codes "fi") then Some Fi else None)
 
+abbrev pub source_or_variable_op : List ℕ → List ℕ → Option IntOp
+source_or_variable_op word a =
+    if bytes_eq word (codes "ifs") then option_map Ifs (source_of a)
+    else (if bytes_eq word (codes "ifc") then option_map Ifc (source_of a)
+    else (if bytes_eq word (codes "inc") then option_map Inc (variable_of a)
+    else (if bytes_eq word (codes "dec") then option_map Dec (variable_of a) else None)))
+
 abbrev pub op_with_one : List ℕ → List ℕ → Option IntOp
 op_with_one word a =
     if bytes_eq word (codes "set") then option_map Set (dest_of a)
     else (if bytes_eq word (codes "clr") then option_map Clr (dest_of a)
-    else (if bytes_eq word (codes "ifs") then option_map Ifs (source_of a)
-    else (if bytes_eq word (codes "ifc") then option_map Ifc (source_of a)
-    else (if bytes_eq word (codes "inc") then option_map Inc (variable_of a)
-    else (if bytes_eq word (codes "dec") then option_map Dec (variable_of a)
-    else (if bytes_eq word (codes "eebusy") then option_map Eebusy (dest_of a) else None))))))
+    else (if bytes_eq word (codes "eebusy") then option_map Eebusy (dest_of a) else source_or_variable_op word a))
+
+abbrev pub device_op : List ℕ → List ℕ → List ℕ → Option IntOp
+device_op word a b =
+    if bytes_eq word (codes "adc") then with_two Adc (variable_of a) (index b)
+    else (if bytes_eq word (codes "eerd") then with_two Eerd (variable_of a) (index b)
+    else (if bytes_eq word (codes "eewr") then with_two Eewr (number_of a) (index b)
+    else (if bytes_eq word (codes "pwm") then with_two Pwm (number_of a) (number_to most_count b)
+    else (if bytes_eq word (codes "rx") then with_two Rx (variable_of a) (dest_of b) else None))))
+
+abbrev pub variable_op : List ℕ → List ℕ → List ℕ → Option IntOp
+variable_op word a b =
+    if bytes_eq word (codes "lit") then with_two Lit (variable_of a) (integer b)
+    else (if bytes_eq word (codes "mov") then with_two Mov (variable_of a) (variable_of b)
+    else (if bytes_eq word (codes "ifee") then with_two Ifee (variable_of a) (index b) else device_op word a b))
 
 abbrev pub op_with_two : List ℕ → List ℕ → List ℕ → Option IntOp
 op_with_two word a b =
     if bytes_eq word (codes "cpy") then with_two Cpy (dest_of a) (source_of b)
     else (if bytes_eq word (codes "not") then with_two Not (dest_of a) (source_of b)
     else (if bytes_eq word (codes "iflt") then with_two Iflt (number_of a) (number_of b)
-    else (if bytes_eq word (codes "ifeq") then with_two Ifeq (number_of a) (number_of b)
-    else (if bytes_eq word (codes "ifee") then with_two Ifee (variable_of a) (index b)
-    else (if bytes_eq word (codes "lit") then with_two Lit (variable_of a) (integer b)
-    else (if bytes_eq word (codes "mov") then with_two Mov (variable_of a) (variable_of b)
-    else (if bytes_eq word (codes "adc") then with_two Adc (variable_of a) (index b)
-    else (if bytes_eq word (codes "pwm") then with_two Pwm (number_of a) (number_to most_count b)
-    else (if bytes_eq word (codes "rx") then with_two Rx (variable_of a) (dest_of b)
-    else (if bytes_eq word (codes "eerd") then with_two Eerd (variable_of a) (index b)
-    else (if bytes_eq word (codes "eewr") then with_two Eewr (number_of a) (index b) else None)))))))))))
+    else (if bytes_eq word (codes "ifeq") then with_two Ifeq (number_of a) (number_of b) else variable_op word a b)))
 
 abbrev pub op_with_three : List ℕ → List ℕ → List ℕ → List ℕ → Option IntOp
 op_with_three word a b c =
@@ -138,12 +144,14 @@ op_with_three word a b c =
 abbrev pub counted : ℕ → List ℤ → Option (List ℤ)
 counted n values = if length values == n then Some values else None
 
-abbrev pub values_of : List ℕ → List (List ℕ) → Option (List ℤ)
-values_of count words = option_and_then (λ n. option_and_then (counted n) (integers words)) (number_to most_values count)
+-- a table behind its head, which has the count of its values
+abbrev pub table_with : List (List ℕ) → ℕ × NumSource × ℕ → Option IntOp
+table_with words head = option_map (Tab head.0 head.1) (option_and_then (counted head.2) (integers words))
 
 -- a table, whose values follow their count
 abbrev pub table_of : List ℕ → List ℕ → List ℕ → List ℕ → List (List ℕ) → Option IntOp
-table_of word a b count words = if bytes_eq word (codes "tab") then with_three Tab (variable_of a) (number_of b) (values_of count words) else None
+table_of word a b count words =
+    if bytes_eq word (codes "tab") then option_and_then (table_with words) (all_three (variable_of a) (number_of b) (number_to most_values count)) else None
 
 abbrev pub op_of : List (List ℕ) → Option IntOp
 op_of [] = None
@@ -162,16 +170,20 @@ head_alone word =
     if bytes_eq word (codes "code") then Some Code
     else (if bytes_eq word (codes "end") then Some End else None)
 
+-- the lines of names without a value
+abbrev pub name_line : List ℕ → List ℕ → Option Line
+name_line word a =
+    if bytes_eq word (codes "input") then option_map Input (name a)
+    else (if bytes_eq word (codes "output") then option_map Output (name a)
+    else (if bytes_eq word (codes "analog") then option_map Analog (name a)
+    else (if bytes_eq word (codes "relay") then option_map Relay (name a)
+    else (if bytes_eq word (codes "persist") then option_map Persistent (name a) else None))))
+
 abbrev pub head_with_one : List ℕ → List ℕ → Option Line
 head_with_one word a =
     if bytes_eq word (codes "LDint") then magic_of a
     else (if bytes_eq word (codes "cycle") then option_map Cycle (number_to 999999999 a)
-    else (if bytes_eq word (codes "input") then option_map Input (name a)
-    else (if bytes_eq word (codes "output") then option_map Output (name a)
-    else (if bytes_eq word (codes "analog") then option_map Analog (name a)
-    else (if bytes_eq word (codes "relay") then option_map Relay (name a)
-    else (if bytes_eq word (codes "persist") then option_map Persistent (name a)
-    else (if bytes_eq word (codes "bits") then option_map BitCount (number_to most_count a) else None)))))))
+    else (if bytes_eq word (codes "bits") then option_map BitCount (number_to most_count a) else name_line word a))
 
 abbrev pub head_with_two : List ℕ → List ℕ → List ℕ → Option Line
 head_with_two word a b = if bytes_eq word (codes "var") then with_two Variable (name a) (integer b) else None

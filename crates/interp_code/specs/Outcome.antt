@@ -1,10 +1,9 @@
 -- How far lines were read.
 use Rattle.std.specs.Prelude.{◌≡◌, ◌⊎◌, ℕ, ◌-◌, ◌<◌, ◌≤◌, List, length, take, Some, None}
-use Rattle.interp_code.specs.declared.read.Outcome.{Outcome}
-use Rattle.interp_code.specs.declared.read.Outcome.TheVariants as outcome
+use Rattle.interp_code.specs.declared.read.Reached.{Reached}
+use Rattle.interp_code.specs.declared.read.Reached.TheVariants.{All, Stopped}
 use Rattle.interp_code.specs.Program.{most_operations}
 use Rattle.interp_code.specs.Draft.{Draft, start, read}
-use Rattle.interp_code.specs.Held.{draft}
 
 -- the lines in front of it were read, and with it they may not be
 pub record IsStopped (ls : List (List ℕ)) (line : ℕ) : Type 0 where
@@ -15,6 +14,7 @@ pub record IsStopped (ls : List (List ℕ)) (line : ℕ) : Type 0 where
   pub few : length last.ops ≤ most_operations
   pub cause : (read start (take line ls) ≡ None) ⊎ ((e : Draft) × (read start (take line ls) ≡ Some e) × (most_operations < length e.ops))
 
-abbrev pub IsOutcome : List (List ℕ) → Outcome → Type 0
-IsOutcome ls (outcome.All reader count) = (read start ls ≡ Some (draft reader)) × (length reader.ops ≤ most_operations) × (count ≡ length ls)
-IsOutcome ls (outcome.Stopped line) = IsStopped ls line
+-- how far lines were read, and what was read
+abbrev pub IsOutcome : List (List ℕ) → Draft → Reached → Type 0
+IsOutcome ls d (All count) = (read start ls ≡ Some d) × (length d.ops ≤ most_operations) × (count ≡ length ls)
+IsOutcome ls d (Stopped line) = IsStopped ls line

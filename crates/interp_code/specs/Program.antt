@@ -6,6 +6,7 @@ use Rattle.ladder_tree.specs.declared.names.Names.{Names}
 use Rattle.ladder_tree.specs.Names.{is_name_within}
 use Rattle.int_code.specs.declared.op.IntProgram.{IntProgram}
 use Rattle.int_code.specs.WellFormed.{IsWellFormed}
+use Rattle.int_code.specs.Literals.{AllHoldNumbers}
 use Rattle.interp_code.specs.declared.program.InterpProgram.{InterpProgram}
 use Rattle.interp_code.specs.Line.{line_of}
 use Rattle.interp_code.specs.Text.{spelled}
@@ -89,3 +90,4 @@ pub record IsWritable (cycle : ℕ) (names : Names) (program : IntProgram) : Typ
   pub persistent : list_all (is_name_within 66) names.persistent ≡ true
   pub timed : cycle ≤ 999999999
   pub few : length program.ops ≤ most_operations
+  pub numbers : AllHoldNumbers program.ops

@@ -1,6 +1,6 @@
 -- The line at which a text that is no program's is refused.
 use Rattle.std.specs.Prelude.{◌≡◌, ◌⊎◌, ℕ, ◌+◌, ◌-◌, ◌<◌, ◌≤◌, Bool, true, false, List, [], ◌∷◌, length, take, Option, Some}
-use Rattle.ld_base.specs.Refusal.{Begins}
+use Rattle.texts.specs.Refusal.{Begins}
 use Rattle.interp_code.specs.declared.program.InterpProgram.{InterpProgram}
 use Rattle.interp_code.specs.Line.{Line, Operation, line_of}
 use Rattle.interp_code.specs.Program.{Says, IsProgram, most_operations}
@@ -19,14 +19,6 @@ operations_in (l ∷ ls) = operations_of (line_of l) + operations_in ls
 pub record IsBegun (lines : List (List ℕ)) : Type 0 where
   pub goes_on : Begins (λ ls. (p : InterpProgram) × Says ls p) lines
   pub few : operations_in lines ≤ most_operations
-
--- how many bytes a text may have
-abbrev pub most_bytes : ℕ
-most_bytes = 67108864
-
--- the bytes by which a text is judged
-abbrev pub judged : List ℕ → List ℕ
-judged text = take (most_bytes + 1) text
 
 -- Lines are counted from 1. Over says that the text is longer than it may be: its last line here then holds the first byte past that.
 pub record IsRefusedAt (over : Bool) (lines : List (List ℕ)) (line : ℕ) : Type 0 where

@@ -9,7 +9,5 @@ pub mod program;
 mod range;
 pub mod read;
 mod reader;
-#[cfg(test)]
-mod tests;
 mod word;
 pub mod write;

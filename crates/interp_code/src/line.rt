@@ -7,7 +7,7 @@ ghost use Rattle.interp_code.specs.Line.{Operation, op_alone, op_with_one, op_wi
 ghost use Rattle.interp_code.specs.Said.{said};
 
 use crate::operation::{op_alone, op_with_more, op_with_one, op_with_two};
-use crate::word::{first_word, integer, name, number_to};
+use crate::word::{first_word, integer, is_word, name, number_to};
 use int_code::op::IntOp;
 use std::alloc::{AllocError, Global};
 
@@ -81,9 +81,9 @@ fn line_with_two<'a>(word: &[u8], a: &'a [u8], b: &[u8]) -> Option<Line<'a>>
 fn head_alone(word: &[u8]) -> Option<Line<'static>>
     ensures { option_map said result ≡ spec.head_alone word.now }
 {
-    if word == b"code".as_slice() {
+    if is_word(word, "code") {
         Some(Line::Code)
-    } else if word == b"end".as_slice() {
+    } else if is_word(word, "end") {
         Some(Line::End)
     } else {
         None
@@ -93,22 +93,30 @@ fn head_alone(word: &[u8]) -> Option<Line<'static>>
 fn head_with_one<'a>(word: &[u8], a: &'a [u8]) -> Option<Line<'a>>
     ensures { option_map said result ≡ spec.head_with_one word.now a.now }
 {
-    if word == b"LDint".as_slice() {
+    if is_word(word, "LDint") {
         magic(a)
-    } else if word == b"cycle".as_slice() {
+    } else if is_word(word, "cycle") {
         Some(Line::Cycle(number_to(999_999_999, a)?))
-    } else if word == b"input".as_slice() {
-        Some(Line::Input(name(a)?))
-    } else if word == b"output".as_slice() {
-        Some(Line::Output(name(a)?))
-    } else if word == b"analog".as_slice() {
-        Some(Line::Analog(name(a)?))
-    } else if word == b"relay".as_slice() {
-        Some(Line::Relay(name(a)?))
-    } else if word == b"persist".as_slice() {
-        Some(Line::Persistent(name(a)?))
-    } else if word == b"bits".as_slice() {
+    } else if is_word(word, "bits") {
         Some(Line::BitCount(number_to(u32::MAX, a)?))
+    } else {
+        name_line(word, a)
+    }
+}
+
+fn name_line<'a>(word: &[u8], a: &'a [u8]) -> Option<Line<'a>>
+    ensures { option_map said result ≡ spec.name_line word.now a.now }
+{
+    if is_word(word, "input") {
+        Some(Line::Input(name(a)?))
+    } else if is_word(word, "output") {
+        Some(Line::Output(name(a)?))
+    } else if is_word(word, "analog") {
+        Some(Line::Analog(name(a)?))
+    } else if is_word(word, "relay") {
+        Some(Line::Relay(name(a)?))
+    } else if is_word(word, "persist") {
+        Some(Line::Persistent(name(a)?))
     } else {
         None
     }
@@ -117,7 +125,7 @@ fn head_with_one<'a>(word: &[u8], a: &'a [u8]) -> Option<Line<'a>>
 fn head_with_two<'a>(word: &[u8], a: &'a [u8], b: &[u8]) -> Option<Line<'a>>
     ensures { option_map said result ≡ spec.head_with_two word.now a.now b.now }
 {
-    if word == b"var".as_slice() {
+    if is_word(word, "var") {
         let (name, start) = (name(a)?, integer(b)?);
         Some(Line::Variable(name, start))
     } else {
@@ -129,7 +137,7 @@ fn head_with_two<'a>(word: &[u8], a: &'a [u8], b: &[u8]) -> Option<Line<'a>>
 fn magic(version: &[u8]) -> Option<Line<'static>>
     ensures { option_map said result ≡ spec.magic_of version.now }
 {
-    if version == b"1".as_slice() {
+    if is_word(version, "1") {
         Some(Line::Magic)
     } else {
         None

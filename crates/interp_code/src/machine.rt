@@ -80,4 +80,11 @@ impl Interp {
     {
         self.sim.view(alloc, &self.names)
     }
+
+    /// The simulator of the program, for a project whose names have places in it.
+    pub fn into_sim(self) -> Sim
+        ensures { result ≡ record { program = self.program; state = self.state } }
+    {
+        self.sim
+    }
 }

@@ -3,16 +3,18 @@
 ghost use Rattle.std.specs.Prelude.{◌≡◌, ◌≤◌, ◌∷◌, IfOk, IfSome};
 ghost use Rattle.std.specs.Option.{option_map, option_and_then};
 ghost use Rattle.std.specs.List.{list_all};
-ghost use Rattle.ld_base.specs.Lines.{pieces};
+ghost use Rattle.std.specs.Str.{bytes_eq};
+ghost use Rattle.texts.specs.Lines.{pieces};
 ghost use Rattle.ladder_tree.specs.Names.{is_name_byte, is_name_within};
 ghost use Rattle.interp_code.specs.Line as spec;
-ghost use Rattle.interp_code.specs.Line.{counted, digits_to, number_to};
+ghost use Rattle.interp_code.specs.Line.{counted, number_to};
 ghost use Rattle.interp_code.specs.Said.{words_of};
 
 use int_code::op::{BitDest, BitSource, NumSource};
 use ladder_tree::element::Nums;
-use ld_base::lines::split_piece;
 use std::alloc::{AllocError, Global};
+use texts::digits::digits_to;
+use texts::lines::split_piece;
 
 /// The first word of a text, and the text of the others, if there are any. One space parts words.
 pub fn first_word(text: &[u8]) -> (&[u8], Option<&[u8]>)
@@ -22,6 +24,13 @@ pub fn first_word(text: &[u8]) -> (&[u8], Option<&[u8]>)
         Some((word, behind)) => (word, Some(behind)),
         None => (text, None),
     }
+}
+
+/// Whether the bytes are those of the word.
+pub fn is_word(bytes: &[u8], word: &str) -> bool
+    ensures { result ≡ bytes_eq bytes.now word.now }
+{
+    bytes == word.as_bytes()
 }
 
 /// A bit that is written.
@@ -162,25 +171,4 @@ pub fn number_to(most: u32, word: &[u8]) -> Option<u32>
     } else {
         digits_to(most, word)
     }
-}
-
-/// Digits that write a number from 0 to the most.
-fn digits_to(most: u32, digits: &[u8]) -> Option<u32>
-    ensures value { result ≡ digits_to most digits.now }
-    ensures range { IfSome result (λ n. n ≤ most) }
-{
-    if digits.is_empty() {
-        return None;
-    }
-    let mut value: u64 = 0;
-    for digit in digits {
-        if !digit.is_ascii_digit() {
-            return None;
-        }
-        value = 10 * value + u64::from(*digit - b'0');
-        if value > u64::from(most) {
-            return None;
-        }
-    }
-    Some(value as u32)
 }

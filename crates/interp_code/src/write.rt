@@ -3,24 +3,22 @@
 ghost use Rattle.std.specs.Prelude.{◌≡◌, ◌<◌, ◌++◌, ◌∷◌, [], true, OnOk, IfOk, All, length, map, codes};
 ghost use Rattle.std.specs.List.{list_all};
 ghost use Rattle.std.specs.String.{string_bytes};
-ghost use Rattle.ld_base.specs.Lines.{lines};
+ghost use Rattle.texts.specs.Lines.{lines};
 ghost use Rattle.ladder_tree.specs.Names.{is_name_within};
 ghost use Rattle.interp_code.specs.Line.{Magic, Cycle, BitCount, Code, End};
-ghost use Rattle.ld_base.specs.Lines.{joined};
+ghost use Rattle.texts.specs.Lines.{joined};
 ghost use Rattle.int_code.specs.Text.{op_words};
 ghost use Rattle.interp_code.specs.Text.{line_text, interp_text, variables};
 ghost use Rattle.interp_code.specs.Program.{IsWritable, IsProgram, read_as};
-ghost use Rattle.interp_code.specs.Ranges.{IsShort, IsShortSource, HasShorts};
+ghost use Rattle.int_code.specs.Literals.{IsNumber};
 ghost use Rattle.interp_code.specs.Written.{name_lines, AreNames};
 
-use int_code::op::{IntOp, IntProgram, NumSource};
-use ladder_tree::element::{Name, Nums};
+use int_code::op::{IntOp, IntProgram};
+use ladder_tree::element::Name;
 use ladder_tree::names::Names;
 use ld_base::list::List;
 use std::alloc::{AllocError, Global};
-
-/// Bytes of a text.
-pub type Text = List<u8>;
+use texts::Text;
 
 /// The text of a program, each line with its line feed. Reading it gives the program back, but
 /// for what a text does not tell: `names.memories`, and which bits are kept.
@@ -60,7 +58,7 @@ fn push_all_names(text: &mut String, names: &Names, starts: &[i16]) -> Result<()
     requires names { AreNames names.now }
     requires starts { length starts.now ≡ length names.now.variables }
     ensures text { OnOk result (string_bytes text.new ≡ string_bytes text.old ++ joined (map line_text (name_lines names.now starts.now))) }
-    ensures shorts { OnOk result (All IsShort starts.now) }
+    ensures numbers { OnOk result (All IsNumber starts.now) }
 {
     push_names(text, "input ", names.inputs.as_slice())?;
     push_names(text, "output ", names.outputs.as_slice())?;
@@ -107,7 +105,7 @@ fn push_variables(text: &mut String, names: &[Name], starts: &[i16]) -> Result<(
     requires names { list_all (is_name_within 66) names.now ≡ true }
     requires starts { length starts.now ≡ length names.now }
     ensures text { OnOk result (string_bytes text.new ≡ string_bytes text.old ++ joined (map line_text (variables names.now starts.now))) }
-    ensures shorts { OnOk result (All IsShort starts.now) }
+    ensures numbers { OnOk result (All IsNumber starts.now) }
 {
     for k in 0..names.len() {
         let start = starts[k];
@@ -118,65 +116,12 @@ fn push_variables(text: &mut String, names: &[Name], starts: &[i16]) -> Result<(
     Ok(())
 }
 
-/// Appends the lines of operations. Their numbers are in the ranges of their types.
+/// Appends the lines of operations.
 fn push_operations(text: &mut String, ops: &[IntOp]) -> Result<(), AllocError>
-    ensures text { OnOk result (string_bytes text.new ≡ string_bytes text.old ++ joined (map op_words ops.now)) }
-    ensures shorts { OnOk result (All HasShorts ops.now) }
+    ensures { OnOk result (string_bytes text.new ≡ string_bytes text.old ++ joined (map op_words ops.now)) }
 {
     for op in ops {
-        read_numbers(op);
         writeln!(text, "{op}")?;
     }
     Ok(())
 }
-
-/// Reads the numbers of an operation, since only a read shows the proof that they are in the ranges of their types.
-fn read_numbers(op: &IntOp)
-    ensures { HasShorts op.now }
-{
-    match op {
-        IntOp::Iflt { w, u } | IntOp::Ifeq { w, u } => read_two(*w, *u),
-        IntOp::Add { w, u, .. } | IntOp::Sub { w, u, .. } => read_two(*w, *u),
-        IntOp::Mul { w, u, .. } | IntOp::Div { w, u, .. } => read_two(*w, *u),
-        IntOp::Lit { n, .. } => read_number(*n),
-        IntOp::Pwm { w, hz } => {
-            read_source(*w);
-            let _hz = *hz;
-        }
-        IntOp::Tx { w, .. } | IntOp::Eewr { w, .. } => read_source(*w),
-        IntOp::Tab { w, values, .. } => {
-            read_source(*w);
-            read_values(values);
-        }
-        _ => {}
-    }
-}
-
-fn read_two(w: NumSource, u: NumSource)
-    ensures w { IsShortSource w }
-    ensures u { IsShortSource u }
-{
-    read_source(w);
-    read_source(u);
-}
-
-fn read_source(w: NumSource)
-    ensures { IsShortSource w }
-{
-    match w {
-        NumSource::V(_) => {}
-        NumSource::N(n) => read_number(n),
-    }
-}
-
-fn read_values(values: &Nums)
-    ensures { All IsShort values.now }
-{
-    for n in values.as_slice() {
-        read_number(*n);
-    }
-}
-
-fn read_number(n: i16)
-    ensures { IsShort n }
-{}

@@ -1,8 +1,11 @@
--- How many operations there are at most, and how many look-ups in tables.
-use Rattle.std.proofs.Common.{◌≡◌, ℕ, zero, suc, ◌+◌, ◌*◌, ◌≤◌, Bool, true, false, List, [], ◌∷◌, ◌++◌, ℤ, pos, length, map, refl, arith, length-append}
+-- How many operations there are at most: what follows from the public list. And how many look-ups in tables.
+use Rattle.std.proofs.Common.{◌≡◌, ℕ, zero, suc, ◌+◌, ◌*◌, ◌≤◌, true, false, List, [], ◌∷◌, ◌++◌, length, map, refl, ap, ◌∙◌, arith, length-append, append-nil}
 use Rattle.std.proofs.lemmas.Bool.Decides.{nat_tests}
-use Rattle.std.proofs.lemmas.List.Sums.{sum_by-cons}
+use Rattle.std.proofs.lemmas.List.Concat.{flat_map-append}
+use Rattle.std.proofs.lemmas.List.Sums.{sum_by-cons, sum_by-append}
 use Rattle.std.proofs.lemmas.List.{length-map}
+use Rattle.std.specs.List.{flat_map, sum_by}
+use Rattle.chip_tables.specs.declared.target.Target.TheVariants.{Interp}
 use Rattle.ladder_tree.specs.Induct.{Each, node_ind}
 use Rattle.ladder_tree.specs.Leaves.{leaves, leaves_in, leaves_step, all_leaves}
 use Rattle.ladder_tree.specs.Size.{size_of, size_in, size_step, size_of_all}
@@ -13,187 +16,251 @@ use Rattle.ladder_tree.specs.declared.element.CompareHow.{CompareHow}
 use Rattle.ladder_tree.specs.declared.element.CounterHow.TheVariants.{Ctu, Ctd, Ctc}
 use Rattle.ladder_tree.specs.declared.element.CounterHow.{CounterHow}
 use Rattle.ladder_tree.specs.declared.element.Leaf as leaf
-use Rattle.ladder_tree.specs.declared.element.LeafKind.TheVariants.{Contacts, Coil, Timer, Counter, Compare, Shift, Table, SetPwm, Persist}
+use Rattle.ladder_tree.specs.declared.element.LeafKind.TheVariants.{Coil, Timer, Counter, Move, Math, Compare, Shift, Table, SetPwm, Recv, Send, Persist}
 use Rattle.ladder_tree.specs.declared.element.LeafKind.{LeafKind}
+use Rattle.ladder_tree.specs.declared.element.MathHow.TheVariants as math
+use Rattle.ladder_tree.specs.declared.element.MathHow.{MathHow}
+use Rattle.ladder_tree.specs.declared.element.Operand.TheVariants.{Var, Num}
+use Rattle.ladder_tree.specs.declared.element.Operand.{Operand}
 use Rattle.ladder_tree.specs.declared.element.TimerHow.TheVariants.{Ton, Tof, Rto}
 use Rattle.ladder_tree.specs.declared.element.TimerHow.{TimerHow}
-use Rattle.ladder_tree.specs.declared.project.Node.{Node, Leaf, Series, Parallel}
-use Rattle.ladder_tree.specs.declared.project.Rung.{Rung}
-use Rattle.ladder_meaning.specs.Numbers.{period}
-use Rattle.int_code.specs.Caps.{element_cap, node_cap, nodes_cap, cap_step, rungs_cap, ops_cap}
-use Rattle.int_code.specs.declared.op.IntOp.TheVariants.{Pwm, Eewr, Tab}
+use Rattle.ladder_tree.specs.declared.project.Node as node
+use Rattle.ladder_tree.specs.declared.project.Node.{Node, Leaf, Series}
+use Rattle.ladder_tree.specs.declared.project.Rung as rung
+use Rattle.ladder_rules.specs.Needs.{element_cost, cost_step, node_cost, nodes_cost, rungs_cost, total}
+use Rattle.ladder_rules.specs.declared.cost.Column.TheVariants.{Ops}
+use Rattle.int_code.specs.Kinds as kind
+use Rattle.int_code.specs.Kinds.{Kind, kinds, kind_of, is_wire, reads_wire, ops_of, IsWithin}
+use Rattle.int_code.specs.Lowered as part
+use Rattle.int_code.specs.Lowered.{Part, Parallel, Branch, Element, part_kinds, element_kinds, coil_kinds, timer_kinds, counter_kinds, compare_kinds, where_kinds, move_kind, math_kind, rise_kinds, moves_kinds, branches, parts, parts_step, parts_in, parts_of_rungs, all_parts, allowed}
+use Rattle.int_code.specs.declared.op.IntOp.TheVariants as op
+use Rattle.int_code.specs.declared.op.IntOp.TheVariants.{Pwm, Rx, Tx, Eewr, Tab}
 use Rattle.int_code.specs.declared.op.IntOp.{IntOp}
-use Rattle.int_code.specs.declared.op.NumSource.{NumSource}
-use Rattle.ladder_lower.specs.ElementCode.{coil_code, contact_code, timer_code, on_rise, counter_code, compare_code, moves, element_code}
+use Rattle.ladder_lower.specs.ElementCode.{element_code}
 use Rattle.ladder_lower.specs.Fit.{is_fit, all_fit}
-use Rattle.ladder_lower.specs.NodeCode.{Piece, series_code, ends, join, others_code, parallel_code, piece, piece_step, nodes_piece, rungs_code, start_by, program_code}
+use Rattle.ladder_lower.specs.Nesting.{nesting_of_all}
+use Rattle.ladder_lower.specs.NodeCode.{program_code}
 use Rattle.ladder_lower.specs.Outcome.{tabs_in}
-use Rattle.ladder_lower.specs.Wires.{variable_of, number_of}
 use Rattle.ladder_lower.specs.declared.layout.Layout.{Layout}
 use Rattle.ladder_tree.proofs.FoldLemmas.{fold-Leaf, fold-Series, fold-Parallel}
 use Rattle.ladder_lower.proofs.LeafLemmas.{fit_first, fit_front, fit_back}
-use Rattle.ladder_lower.proofs.NodeLemmas.{keep}
 use Rattle.ladder_lower.proofs.OrdinaryLemmas.{any_special, element_plain}
-use Rattle.ladder_lower.proofs.PartLemmas.{IsShared, program_holds}
+use Rattle.ladder_lower.proofs.PartLemmas.{IsShared, Ready, joined-cons, program_holds}
 
--- how many operations there are, by two bounds
-pub record IsShort (ops : List IntOp) (cap lines : ℕ) : Type 0 where
-  pub within : length ops ≤ cap
-  pub few : length ops ≤ lines
+one_more : (x : Kind) (xs : List Kind) (n : ℕ) → ops_of x ≡ 1 → sum_by ops_of xs ≡ n → sum_by ops_of (x ∷ xs) ≡ suc n
+one_more x xs n e f = sum_by-cons ops_of x xs ∙ omega (arith, e, f)
 
-module _ (p : Layout) where
-  contact_length : (neg : Bool) (name : List ℕ) → length (contact_code p neg name) ≡ 3
-  contact_length true name = refl
-  contact_length false name = refl
+three_more : (x : Kind) (xs : List Kind) (n : ℕ) → ops_of x ≡ 3 → sum_by ops_of xs ≡ n → sum_by ops_of (x ∷ xs) ≡ suc (suc (suc n))
+three_more x xs n e f = sum_by-cons ops_of x xs ∙ omega (arith, e, f)
 
-  coil_length : (how : CoilMode) (name : List ℕ) → length (coil_code p how name) ≤ 3
-  coil_length mode.Plain name = omega arith
-  coil_length mode.Negated name = omega arith
-  coil_length mode.Set name = omega arith
-  coil_length mode.Reset name = omega arith
+-- the kinds tell how many operations there are
+kinds_count : (kept : ℕ) (ops : List IntOp) → sum_by ops_of (kinds kept ops) ≡ length ops
+kinds_count kept [] = refl
+kinds_count kept (op.Ifs s ∷ op.Set b ∷ op.Fi ∷ ops) = three_more (kind.Guarded (reads_wire kept s) (is_wire kept b)) (kinds kept ops) (length ops) refl (kinds_count kept ops)
+kinds_count kept (op.Ifs s ∷ op.Clr b ∷ op.Fi ∷ ops) = three_more (kind.Guarded (reads_wire kept s) (is_wire kept b)) (kinds kept ops) (length ops) refl (kinds_count kept ops)
+kinds_count kept (op.Ifc s ∷ op.Set b ∷ op.Fi ∷ ops) = three_more (kind.Guarded (reads_wire kept s) (is_wire kept b)) (kinds kept ops) (length ops) refl (kinds_count kept ops)
+kinds_count kept (op.Ifc s ∷ op.Clr b ∷ op.Fi ∷ ops) = three_more (kind.Guarded (reads_wire kept s) (is_wire kept b)) (kinds kept ops) (length ops) refl (kinds_count kept ops)
+kinds_count kept (x ∷ ops) = one_more (kind_of kept x) (kinds kept ops) (length ops) refl (kinds_count kept ops)
 
-  timer_length : (how : TimerHow) (v : ℕ) (limit : ℤ) → length (timer_code p how v limit) ≤ 8
-  timer_length Ton v limit = omega arith
-  timer_length Tof v limit = omega arith
-  timer_length Rto v limit = omega arith
+abbrev count : List Kind → ℕ
+count = sum_by ops_of
 
-  counter_length : (how : CounterHow) (v : ℕ) (max : ℤ) (k : ℕ) → length (counter_code p how v max k) ≤ 11
-  counter_length Ctu v max k = omega arith
-  counter_length Ctd v max k = omega arith
-  counter_length Ctc v max k = omega arith
+coil_count : (how : CoilMode) → count (coil_kinds how) ≤ 3
+coil_count mode.Plain = omega arith
+coil_count mode.Negated = omega arith
+coil_count mode.Set = omega arith
+coil_count mode.Reset = omega arith
 
-  compare_length : (how : CompareHow) (w u : NumSource) → length (compare_code p how w u) ≤ 4
-  compare_length Equ w u = omega arith
-  compare_length Neq w u = omega arith
-  compare_length Grt w u = omega arith
-  compare_length Geq w u = omega arith
-  compare_length Les w u = omega arith
-  compare_length Leq w u = omega arith
+timer_count : (how : TimerHow) → count (timer_kinds how) ≤ 8
+timer_count Ton = omega arith
+timer_count Tof = omega arith
+timer_count Rto = omega arith
 
-  moves_length : (name : List ℕ) (places : ℕ) → length (moves p name places) ≤ places
-  moves_length name zero = omega arith
-  moves_length name (suc zero) = omega arith
-  moves_length name (suc (suc k)) = let h = moves_length name (suc k) in omega arith
+counter_count : (how : CounterHow) → count (counter_kinds how) ≤ 10
+counter_count Ctu = omega arith
+counter_count Ctd = omega arith
+counter_count Ctc = omega arith
 
-  shift_length : (name : List ℕ) (places k : ℕ) → length (on_rise p k (moves p name places)) ≤ 5 + places
-  shift_length name places k = let h = moves_length name places in omega (arith, length-append (moves p name places))
+compare_count : (how : CompareHow) → count (compare_kinds how) ≤ 4
+compare_count Equ = omega arith
+compare_count Neq = omega arith
+compare_count Grt = omega arith
+compare_count Geq = omega arith
+compare_count Les = omega arith
+compare_count Leq = omega arith
 
-  -- a shift register has the most
-  element_length : (kind : LeafKind) (k : ℕ) → is_fit p.cycle kind ≡ true → IsShort (element_code p kind k) (element_cap kind) 65
-  element_length (Contacts name neg) k e = let h = contact_length neg name in record { within = omega arith; few = omega arith }
-  element_length (Coil name how) k e = let h = coil_length how name in record { within = omega arith; few = omega arith }
-  element_length (Timer how name delay) k e = let h = timer_length how (variable_of p name) (pos (period p.cycle delay)) in record { within = omega (arith, h); few = omega (arith, h) }
-  element_length (Counter how name max) k e = let h = counter_length how (variable_of p name) max k in record { within = omega (arith, h); few = omega (arith, h) }
-  element_length (Compare how a b) k e = let h = compare_length how (number_of p a) (number_of p b) in record { within = omega (arith, h); few = omega (arith, h) }
-  element_length (Shift name places) k e = let h = shift_length name places k in let most : places ≤ 60 = grind (arith, nat_tests, e) in record { within = omega arith; few = omega arith }
-  element_length _ k e = record { within = omega arith; few = omega arith }
+move_count : (x : Operand) → count (where_kinds (move_kind x)) ≤ 3
+move_count (Var name) = omega arith
+move_count (Num n) = omega arith
 
-  two_short : (a b : List IntOp) (c e l m : ℕ) → IsShort a c l → IsShort b e m → IsShort (a ++ b) (c + e) (l + m)
-  two_short a b c e l m f g = let x = f.within in let y = f.few in let z = g.within in let w = g.few in record {
-    within = omega (arith, length-append a b);
-    few = omega (arith, length-append a b);
-  }
+math_count : (how : MathHow) → count (where_kinds (math_kind how)) ≤ 3
+math_count math.Add = omega arith
+math_count math.Sub = omega arith
+math_count math.Mul = omega arith
+math_count math.Div = omega arith
 
+moves_count : (places : ℕ) → count (moves_kinds places) ≤ places
+moves_count zero = omega arith
+moves_count (suc zero) = omega arith
+moves_count (suc (suc k)) = let h = moves_count (suc k) in omega (arith, sum_by-cons ops_of kind.Mov (moves_kinds (suc k)))
+
+shift_count : (places : ℕ) → count (rise_kinds (moves_kinds places)) ≤ 5 + places
+shift_count places =
+    let h = moves_count places in
+    let tail : List Kind = kind.Fi ∷ kind.Fi ∷ kind.Cpy false true ∷ [] in
+    omega (arith, sum_by-cons ops_of (kind.Ifs true) (kind.Ifc false ∷ (moves_kinds places ++ tail)), sum_by-cons ops_of (kind.Ifc false) (moves_kinds places ++ tail), sum_by-append ops_of (moves_kinds places) tail)
+
+-- the row of the table of costs is no less, nor is 65, which a shift register has
+record Counted (x : LeafKind) : Type 0 where
+  within : count (element_kinds x) ≤ element_cost Ops Interp x
+  few : (cycle : ℕ) → is_fit cycle x ≡ true → count (element_kinds x) ≤ 65
+
+math_cost : (how : MathHow) (to : List ℕ) (a b : Operand) → 4 ≤ element_cost Ops Interp (Math how to a b)
+math_cost math.Add to a b = omega arith
+math_cost math.Sub to a b = omega arith
+math_cost math.Mul to a b = omega arith
+math_cost math.Div to a b = omega arith
+
+timer_cost : (how : TimerHow) (name : List ℕ) (delay : ℕ) → 14 ≤ element_cost Ops Interp (Timer how name delay)
+timer_cost Ton name delay = omega arith
+timer_cost Tof name delay = omega arith
+timer_cost Rto name delay = omega arith
+
+counted : (x : LeafKind) → Counted x
+counted (Coil name how) = let h = coil_count how in record { within = omega (arith, h); few = λ cycle e. omega (arith, h) }
+counted (Timer how name delay) = let h = timer_count how in record { within = omega (arith, h, timer_cost how name delay); few = λ cycle e. omega (arith, h) }
+counted (Counter how name max) = let h = counter_count how in record { within = omega (arith, h); few = λ cycle e. omega (arith, h) }
+counted (Move to src) = let h = move_count src in record { within = omega (arith, h); few = λ cycle e. omega (arith, h) }
+counted (Math how to a b) = let h = math_count how in record { within = omega (arith, h, math_cost how to a b); few = λ cycle e. omega (arith, h) }
+counted (Compare how a b) = let h = compare_count how in record { within = omega (arith, h); few = λ cycle e. omega (arith, h) }
+counted (Shift name places) =
+    let h = shift_count places in
+    record { within = omega (arith, h); few = λ cycle e. (let most : places ≤ 60 = grind (arith, nat_tests, e) in omega (arith, h, most)) }
+counted _ = record { within = omega arith; few = λ cycle e. omega arith }
+
+abbrev weight : List Part → ℕ
+weight xs = count (flat_map part_kinds xs)
+
+weight_append : (xs ys : List Part) → weight (xs ++ ys) ≡ weight xs + weight ys
+weight_append xs ys = rw (flat_map-append part_kinds xs ys) (sum_by-append ops_of (flat_map part_kinds xs) (flat_map part_kinds ys))
+
+module _ (cycle : ℕ) where
   abbrev Fit : List leaf.Leaf → Type 0
-  Fit ls = all_fit p.cycle ls ≡ true
+  Fit ls = all_fit cycle ls ≡ true
 
-  record NodeShort (n : Node) : Type 0 where
-    each : Fit (leaves n) → (d k : ℕ) → IsShort ((piece p n).code d k) (node_cap n) (69 * size_of n)
-    less : Fit (leaves n) → (d k : ℕ) → length ((piece p n).code d k) + 4 ≤ 69 * size_of n
+  record NodeCounted (n : Node) : Type 0 where
+    within : weight (parts n) ≤ node_cost Ops Interp n
+    few : Fit (leaves n) → weight (parts n) + 5 ≤ 70 * size_of n
 
-  series_short : (ns : List Node) → Each NodeShort ns → Fit (leaves_in ns) → (d k : ℕ) → IsShort ((series_code (map (piece p) ns)).code d k) (nodes_cap ns) (69 * size_in ns)
-  series_short [] h fit d k = record { within = omega arith; few = omega arith }
-  series_short (n ∷ ns) h fit d k =
-      let s = two_short _ _ _ _ _ _ (h.0.each (fit_front p.cycle (leaves n) (leaves_in ns) fit) d k) (series_short ns h.1 (fit_back p.cycle (leaves n) (leaves_in ns) fit) d (k + (piece p n).memories)) in
-      let x = s.within in let y = s.few in
-      record { within = omega (arith, sum_by-cons (λ x. x) (node_cap n) (map node_cap ns)); few = omega (arith, sum_by-cons (λ x. x) (size_of n) (map size_of ns)) }
+  record SeriesCounted (ns : List Node) : Type 0 where
+    within : weight (parts_in ns) ≤ nodes_cost Ops Interp ns
+    few : Fit (leaves_in ns) → weight (parts_in ns) ≤ 70 * size_in ns
 
-  join_length : (b : Bool) (d : ℕ) → length (join b p d) ≡ 3
-  join_length true d = refl
-  join_length false d = refl
-
-  others_short : (ns : List Node) → Each NodeShort ns → Fit (leaves_in ns) → (d k : ℕ) → IsShort ((others_code p (map (piece p) ns)).code d k) (8 * length ns + nodes_cap ns) (69 * size_in ns)
-  others_short [] h fit d k = record { within = omega arith; few = omega arith }
-  others_short (n ∷ ns) h fit d k =
-      let a = (piece p n).code (d + 1) k in
-      let j = join (ends (map (piece p) ns)) p d in
-      let three = join_length (ends (map (piece p) ns)) d in
-      let b = (others_code p (map (piece p) ns)).code d (k + (piece p n).memories) in
-      let first = fit_front p.cycle (leaves n) (leaves_in ns) fit in
-      let f = (h.0.each first (d + 1) k).within in
-      let g = h.0.less first (d + 1) k in
-      let r = others_short ns h.1 (fit_back p.cycle (leaves n) (leaves_in ns) fit) d (k + (piece p n).memories) in
-      let x = r.within in let y = r.few in
+  series_counted : (ns : List Node) → Each NodeCounted ns → SeriesCounted ns
+  series_counted [] h = record { within = omega arith; few = λ fit. omega arith }
+  series_counted (n ∷ ns) h =
+      let more = series_counted ns h.1 in
+      let x = h.0.within in let y = more.within in
+      let both = weight_append (parts n) (parts_in ns) in
       record {
-        within = omega (arith, length-append a (j ++ b), length-append j b, sum_by-cons (λ x. x) (node_cap n) (map node_cap ns));
-        few = omega (arith, length-append a (j ++ b), length-append j b, sum_by-cons (λ x. x) (size_of n) (map size_of ns));
+        within = rw (joined-cons (parts n) (map parts ns)) (omega (arith, x, y, both, sum_by-cons (λ x. x) (node_cost Ops Interp n) (map (node_cost Ops Interp) ns)));
+        few = λ fit. (
+            let f = h.0.few (fit_front cycle (leaves n) (leaves_in ns) fit) in
+            let g = more.few (fit_back cycle (leaves n) (leaves_in ns) fit) in
+            rw (joined-cons (parts n) (map parts ns)) (omega (arith, f, g, both, sum_by-cons (λ x. x) (size_of n) (map size_of ns)))
+            );
       }
 
-  parallel_short : (ns : List Node) → Each NodeShort ns → Fit (leaves_in ns) → (d k : ℕ) → IsShort ((parallel_code p (map (piece p) ns)).code d k) (4 + (8 * length ns + nodes_cap ns)) (3 + 69 * size_in ns)
-  parallel_short [] h fit d k = record { within = omega arith; few = omega arith }
-  parallel_short (n ∷ []) h fit d k =
-      let first = fit_front p.cycle (leaves n) [] fit in
-      let f = (h.0.each first d k).within in
-      let g = h.0.less first d k in
-      record { within = omega arith; few = omega arith }
-  parallel_short (n ∷ o ∷ ns) h fit d k =
-      let a = (piece p n).code (d + 1) k in
-      let b = (others_code p (map (piece p) (o ∷ ns))).code d (k + (piece p n).memories) in
-      let first = fit_front p.cycle (leaves n) (leaves_in (o ∷ ns)) fit in
-      let f = (h.0.each first (d + 1) k).within in
-      let g = h.0.less first (d + 1) k in
-      let r = others_short (o ∷ ns) h.1 (fit_back p.cycle (leaves n) (leaves_in (o ∷ ns)) fit) d (k + (piece p n).memories) in
-      let x = r.within in let y = r.few in
+  record BranchesCounted (ns : List Node) : Type 0 where
+    within : weight (branches (map parts ns)) ≤ 8 * length ns + nodes_cost Ops Interp ns
+    few : Fit (leaves_in ns) → weight (branches (map parts ns)) ≤ 70 * size_in ns
+
+  branches_counted : (ns : List Node) → Each NodeCounted ns → BranchesCounted ns
+  branches_counted [] h = record { within = omega arith; few = λ fit. omega arith }
+  branches_counted (n ∷ ns) h =
+      let more = branches_counted ns h.1 in
+      let x = h.0.within in let y = more.within in
+      let both = weight_append (parts n) (Branch ∷ branches (map parts ns)) in
+      let one : weight (Branch ∷ branches (map parts ns)) ≡ 5 + weight (branches (map parts ns)) = weight_append (Branch ∷ []) (branches (map parts ns)) in
       record {
-        within = omega (arith, length-append a (keep p d ∷ b), sum_by-cons (λ x. x) (node_cap n) (map node_cap (o ∷ ns)));
-        few = omega (arith, length-append a (keep p d ∷ b), sum_by-cons (λ x. x) (size_of n) (map size_of (o ∷ ns)));
+        within = omega (arith, x, y, both, one, sum_by-cons (λ x. x) (node_cost Ops Interp n) (map (node_cost Ops Interp) ns));
+        few = λ fit. (
+            let f = h.0.few (fit_front cycle (leaves n) (leaves_in ns) fit) in
+            let g = more.few (fit_back cycle (leaves n) (leaves_in ns) fit) in
+            omega (arith, f, g, both, one, sum_by-cons (λ x. x) (size_of n) (map size_of ns))
+            );
       }
 
-  leaf_short : (l : leaf.Leaf) → NodeShort (Leaf l)
-  leaf_short l = record {
-    each = rw (fold-Leaf Piece (piece_step p) l, fold-Leaf ℕ cap_step l, fold-Leaf ℕ size_step l, fold-Leaf (List leaf.Leaf) leaves_step l) (λ fit d k. let e = element_length l.kind k (fit_first p.cycle l [] fit) in record { within = e.within; few = let x = e.few in omega arith });
-    less = rw (fold-Leaf Piece (piece_step p) l, fold-Leaf ℕ size_step l, fold-Leaf (List leaf.Leaf) leaves_step l) (λ fit d k. let x = (element_length l.kind k (fit_first p.cycle l [] fit)).few in omega arith);
-  }
-
-  series_node_short : (ns : List Node) → Each NodeShort ns → NodeShort (Series ns)
-  series_node_short ns h = record {
-    each = rw (fold-Series Piece (piece_step p) ns, fold-Series ℕ cap_step ns, fold-Series ℕ size_step ns, fold-Series (List leaf.Leaf) leaves_step ns) (λ fit d k. let e = series_short ns h fit d k in record { within = e.within; few = let x = e.few in omega arith });
-    less = rw (fold-Series Piece (piece_step p) ns, fold-Series ℕ size_step ns, fold-Series (List leaf.Leaf) leaves_step ns) (λ fit d k. let x = (series_short ns h fit d k).few in omega arith);
-  }
-
-  parallel_node_short : (ns : List Node) → Each NodeShort ns → NodeShort (Parallel ns)
-  parallel_node_short ns h = record {
-    each = rw (fold-Parallel Piece (piece_step p) ns, fold-Parallel ℕ cap_step ns, fold-Parallel ℕ size_step ns, fold-Parallel (List leaf.Leaf) leaves_step ns) (λ fit d k. let e = parallel_short ns h fit d k in record { within = let x = e.within in omega (arith, length-map ns node_cap); few = let x = e.few in omega arith });
-    less = rw (fold-Parallel Piece (piece_step p) ns, fold-Parallel ℕ size_step ns, fold-Parallel (List leaf.Leaf) leaves_step ns) (λ fit d k. let x = (parallel_short ns h fit d k).few in omega arith);
-  }
-
-  node_short : (n : Node) → NodeShort n
-  node_short = node_ind NodeShort leaf_short series_node_short parallel_node_short
-
-  each_short : (ns : List Node) → Each NodeShort ns
-  each_short [] = tt
-  each_short (n ∷ ns) = (node_short n, each_short ns)
-
-  rungs_short : (gs : List Rung) → Fit (all_leaves gs) → (k : ℕ) → IsShort (rungs_code p gs k) (rungs_cap gs) (69 * size_of_all gs)
-  rungs_short [] fit k = record { within = omega arith; few = omega arith }
-  rungs_short (g ∷ gs) fit k =
-      let s = two_short _ _ _ _ _ _ (series_short g.nodes (each_short g.nodes) (fit_front p.cycle (leaves_in g.nodes) (all_leaves gs) fit) 0 k) (rungs_short gs (fit_back p.cycle (leaves_in g.nodes) (all_leaves gs) fit) (k + (nodes_piece p g.nodes).memories)) in
-      let x = s.within in let y = s.few in
-      record { within = omega arith; few = omega arith }
-
-  start_length : (b : Bool) → length (start_by b p) ≤ 1
-  start_length true = omega arith
-  start_length false = omega arith
-
-  -- the whole program
-  pub program_short : (gs : List Rung) → Fit (all_leaves gs) → IsShort (program_code p gs) (ops_cap gs) (69 * size_of_all gs + 1)
-  program_short gs fit =
-      let s = rungs_short gs fit 0 in let x = s.within in let y = s.few in
-      let one = start_length p.has_master in
+  leaf_counted : (l : leaf.Leaf) → NodeCounted (Leaf l)
+  leaf_counted l =
+      let c = counted l.kind in
+      let one : weight (Element l ∷ []) ≡ count (element_kinds l.kind) = ap count (append-nil (element_kinds l.kind)) in
       record {
-        within = omega (arith, length-append (start_by p.has_master p) (rungs_code p gs 0));
-        few = omega (arith, length-append (start_by p.has_master p) (rungs_code p gs 0));
+        within = rw (fold-Leaf (List Part) parts_step l, fold-Leaf ℕ (cost_step Ops Interp) l, one) c.within;
+        few = rw (fold-Leaf (List Part) parts_step l, fold-Leaf ℕ size_step l, fold-Leaf (List leaf.Leaf) leaves_step l) (λ fit. let f = c.few cycle (fit_first cycle l [] fit) in omega (arith, f, one));
       }
+
+  series_node_counted : (ns : List Node) → Each NodeCounted ns → NodeCounted (Series ns)
+  series_node_counted ns h =
+      let c = series_counted ns h in
+      record {
+        within = rw (fold-Series (List Part) parts_step ns, fold-Series ℕ (cost_step Ops Interp) ns) c.within;
+        few = rw (fold-Series (List Part) parts_step ns, fold-Series ℕ size_step ns, fold-Series (List leaf.Leaf) leaves_step ns) (λ fit. let f = c.few fit in omega (arith, f));
+      }
+
+  parallel_counted : (ns : List Node) → Each NodeCounted ns → NodeCounted (node.Parallel ns)
+  parallel_counted ns h =
+      let c = branches_counted ns h in
+      let x = c.within in
+      let one : weight (Parallel ∷ branches (map parts ns)) ≡ 2 + weight (branches (map parts ns)) = weight_append (Parallel ∷ []) (branches (map parts ns)) in
+      record {
+        within = rw (fold-Parallel (List Part) parts_step ns, fold-Parallel ℕ (cost_step Ops Interp) ns) (omega (arith, x, one, length-map ns (node_cost Ops Interp)));
+        few = rw (fold-Parallel (List Part) parts_step ns, fold-Parallel ℕ size_step ns, fold-Parallel (List leaf.Leaf) leaves_step ns) (λ fit. let f = c.few fit in omega (arith, f, one));
+      }
+
+  node_counted : (n : Node) → NodeCounted n
+  node_counted = node_ind NodeCounted leaf_counted series_node_counted parallel_counted
+
+  each_counted : (ns : List Node) → Each NodeCounted ns
+  each_counted [] = tt
+  each_counted (n ∷ ns) = (node_counted n, each_counted ns)
+
+  record RungsCounted (gs : List rung.Rung) : Type 0 where
+    within : weight (parts_of_rungs gs) ≤ rungs_cost Ops Interp gs
+    few : Fit (all_leaves gs) → weight (parts_of_rungs gs) ≤ 70 * size_of_all gs
+
+  rungs_counted : (gs : List rung.Rung) → RungsCounted gs
+  rungs_counted [] = record { within = omega arith; few = λ fit. omega arith }
+  rungs_counted (g ∷ gs) =
+      let nodes = series_counted g.nodes (each_counted g.nodes) in
+      let more = rungs_counted gs in
+      let x = nodes.within in let y = more.within in
+      let both = weight_append (parts_in g.nodes) (parts_of_rungs gs) in
+      let one : weight (part.Rung ∷ (parts_in g.nodes ++ parts_of_rungs gs)) ≡ 2 + weight (parts_in g.nodes ++ parts_of_rungs gs) = weight_append (part.Rung ∷ []) (parts_in g.nodes ++ parts_of_rungs gs) in
+      record {
+        within = omega (arith, x, y, both, one);
+        few = λ fit. (
+            let f = nodes.few (fit_front cycle (leaves_in g.nodes) (all_leaves gs) fit) in
+            let h = more.few (fit_back cycle (leaves_in g.nodes) (all_leaves gs) fit) in
+            omega (arith, f, h, both, one)
+            );
+      }
+
+-- operations within the public list are no more than the sum of the table of costs
+pub within_cap : (kept : ℕ) (ops : List IntOp) (gs : List rung.Rung) → IsWithin (kinds kept ops) (allowed gs) → length ops ≤ total Ops Interp gs
+within_cap kept ops gs is =
+    let h = is ops_of in
+    let c = (rungs_counted 1 gs).within in
+    let one : weight (all_parts gs) ≡ 1 + weight (parts_of_rungs gs) = weight_append (part.Base ∷ []) (parts_of_rungs gs) in
+    omega (arith, h, c, one, kinds_count kept ops)
+
+-- nor more than 70 for each line that the rungs take
+pub within_lines : (kept cycle : ℕ) (ops : List IntOp) (gs : List rung.Rung) → IsWithin (kinds kept ops) (allowed gs) → all_fit cycle (all_leaves gs) ≡ true → length ops ≤ 70 * size_of_all gs + 1
+within_lines kept cycle ops gs is fit =
+    let h = is ops_of in
+    let c = (rungs_counted cycle gs).few fit in
+    let one : weight (all_parts gs) ≡ 1 + weight (parts_of_rungs gs) = weight_append (part.Base ∷ []) (parts_of_rungs gs) in
+    omega (arith, h, c, one, kinds_count kept ops)
 
 tabs_append : (a b : List IntOp) → tabs_in (a ++ b) ≡ tabs_in a + tabs_in b
 tabs_append [] b = omega arith
@@ -202,6 +269,8 @@ tabs_append (op ∷ a) b = let h = tabs_append a b in omega (arith, h)
 no_tabs : (ops : List IntOp) → any_special ops ≡ false → tabs_in ops ≡ 0
 no_tabs [] e = refl
 no_tabs (Pwm w hz ∷ ops) e = absurd (cc)
+no_tabs (Rx v b ∷ ops) e = absurd (cc)
+no_tabs (Tx w s b ∷ ops) e = absurd (cc)
 no_tabs (Eewr w a ∷ ops) e = absurd (cc)
 no_tabs (Tab v w values ∷ ops) e = absurd (cc)
 no_tabs (op ∷ ops) e = let h = no_tabs ops e in omega arith
@@ -210,21 +279,23 @@ no_tabs (op ∷ ops) e = let h = no_tabs ops e in omega arith
 abbrev FewTabs : List leaf.Leaf → List IntOp → Type 0
 FewTabs ls ops = tabs_in ops ≤ length ls
 
-tabs_shared : IsShared FewTabs
-tabs_shared = record {
+tabs_shared : (p : Layout) (deep : ℕ) → IsShared p deep FewTabs
+tabs_shared p deep = record {
   none = omega arith;
-  both = λ ls ms a b f g. omega (arith, length-append ls ms, tabs_append a b);
-  set = λ b. omega arith;
-  clear = λ b. omega arith;
-  copy = λ b s. omega arith;
-  set_where = λ s b. omega arith;
+  both = λ ls ms a b f g. omega (arith, f, g, length-append ls ms, tabs_append a b);
+  set = λ i lt. omega arith;
+  clear = λ i lt. omega arith;
+  copy = λ i j lt le. omega arith;
+  set_where = λ i j lt le. omega arith;
 }
 
 element_tabs : (p : Layout) (kind : LeafKind) (k : ℕ) → tabs_in (element_code p kind k) ≤ 1
 element_tabs p (SetPwm name hz) k = omega arith
+element_tabs p (Recv name) k = omega arith
+element_tabs p (Send name) k = omega arith
 element_tabs p (Persist name) k = omega arith
 element_tabs p (Table dest index as_text values) k = omega arith
 element_tabs p kind k = let h = no_tabs (element_code p kind k) (element_plain p kind k) in omega (arith, h)
 
-pub program_tabs : (p : Layout) (gs : List Rung) → tabs_in (program_code p gs) ≤ length (all_leaves gs)
-program_tabs p = program_holds p FewTabs tabs_shared (λ l k. let h = element_tabs p l.kind k in omega arith)
+pub program_tabs : (p : Layout) (gs : List rung.Rung) → Ready p gs → tabs_in (program_code p gs) ≤ length (all_leaves gs)
+program_tabs p gs ready = program_holds p (nesting_of_all gs) FewTabs (tabs_shared p (nesting_of_all gs)) (λ l k a le. let h = element_tabs p l.kind k in omega (arith, h)) gs (omega arith) ready

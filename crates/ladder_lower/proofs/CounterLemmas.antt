@@ -77,7 +77,7 @@ module _ (p : Layout) (r : Reading) where
 
   -- the power becomes whether the variable is at the limit or past it
   reached_by : (d : ℕ) (m : Moment) (s : Now) (name : List ℕ) (limit : ℤ) (below : Bool) → int_lt (s.kept.number name) limit ≡ below → m.store.number (variable_of p name) ≡ s.kept.number name → all_run m.ifs ≡ true → Stands p s m.store → After p d m (run r (reached p (variable_of p name) limit) m) (record { now = s; output = not below })
-  reached_by d m s name limit true e n on sh = rw (on, n, e) (after d m _ (power_wrote false (nothing_wrote s m.store _ refl sh)))
+  reached_by d m s name limit true e n on sh = rw (on, n, e) (after d m _ (power_wrote false (power_wrote true (nothing_wrote s m.store _ refl sh))))
   reached_by d m s name limit false e n on sh = rw (on, n, e) (after d m _ (power_wrote true (nothing_wrote s m.store _ refl sh)))
 
   reached_after : (d : ℕ) (m : Moment) (s : Now) (name : List ℕ) (limit : ℤ) → held p.variables name ≡ true → all_run m.ifs ≡ true → Stands p s m.store → After p d m (run r (reached p (variable_of p name) limit) m) (record { now = s; output = int_le limit (s.kept.number name) })

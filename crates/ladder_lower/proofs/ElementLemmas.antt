@@ -1,22 +1,14 @@
 -- The operations of each element do what the element does.
-use Rattle.std.proofs.Common.{◌≡◌, ℕ, ◌+◌, ◌<◌, ◌≤◌, ◌&&◌, not, Bool, true, false, cond, List, [], ◌∷◌, ◌++◌, refl, sym, ap, ◌∙◌, subst, arith, pos}
+use Rattle.std.proofs.Common.{◌≡◌, ℕ, ◌+◌, ◌<◌, ◌≤◌, ◌&&◌, not, Bool, true, false, cond, List, [], ◌∷◌, ◌++◌, refl, sym, ap, ◌∙◌, subst, append-nil, arith, pos}
 use Rattle.std.proofs.Math.Bool.{and-false, and-true, not-not}
-use Rattle.std.specs.Prelude.{slice_index_or, ℤ}
+use Rattle.std.specs.Prelude.{slice_index_or}
 use Rattle.ladder_tree.specs.Names.{is_output, is_input, memories, operand_names}
 use Rattle.ladder_tree.specs.declared.element.CoilMode.TheVariants as mode
 use Rattle.ladder_tree.specs.declared.element.CoilMode.{CoilMode}
-use Rattle.ladder_tree.specs.declared.element.CompareHow.TheVariants.{Equ, Neq, Grt, Geq, Les, Leq}
-use Rattle.ladder_tree.specs.declared.element.CompareHow.{CompareHow}
-use Rattle.ladder_tree.specs.declared.element.CounterHow.TheVariants.{Ctu, Ctd, Ctc}
-use Rattle.ladder_tree.specs.declared.element.CounterHow.{CounterHow}
 use Rattle.ladder_tree.specs.declared.element.LeafKind.TheVariants.{Contacts, Coil, Osr, Osf, Short, Open, MasterRelay, Placeholder, Comment, Timer, Counter, Reset, Move, Math, Compare, Shift, Table, ReadAdc, SetPwm, Recv, Send, Persist, Linear, Formatted}
 use Rattle.ladder_tree.specs.declared.element.LeafKind.{LeafKind}
-use Rattle.ladder_tree.specs.declared.element.MathHow.TheVariants.{Add, Sub, Mul, Div}
 use Rattle.ladder_tree.specs.declared.element.MathHow.{MathHow}
-use Rattle.ladder_tree.specs.declared.element.Operand.TheVariants.{Var, Num}
 use Rattle.ladder_tree.specs.declared.element.Operand.{Operand}
-use Rattle.ladder_tree.specs.declared.element.TimerHow.TheVariants.{Ton, Tof, Rto}
-use Rattle.ladder_tree.specs.declared.element.TimerHow.{TimerHow}
 use Rattle.ladder_meaning.specs.Element.{element, coil, operand, set_where}
 use Rattle.ladder_meaning.specs.Numbers.{period, computed}
 use Rattle.ladder_meaning.specs.State as ladder
@@ -27,75 +19,26 @@ use Rattle.int_code.specs.Store.{Store, value_of, with}
 use Rattle.int_code.specs.WellFormed.{nests}
 use Rattle.int_code.specs.declared.op.BitDest.TheVariants as dest
 use Rattle.int_code.specs.declared.op.BitSource.TheVariants as source
-use Rattle.int_code.specs.declared.op.IntOp.TheVariants.{Set, Clr, Cpy, Not, Ifs, Ifc, Fi, Lit, Adc}
-use Rattle.ladder_lower.specs.ElementCode.{where_power, move_op, math_op, compare_code, timer_code, counter_code, on_rise, moves, element_code, contact_code, coil_code}
+use Rattle.int_code.specs.declared.op.IntOp.TheVariants.{Set, Clr, Cpy, Not, Ifs, Ifc, Lit, Adc}
+use Rattle.ladder_lower.specs.ElementCode.{where_power, move_op, math_op, element_code, contact_code, coil_code}
 use Rattle.ladder_lower.specs.Wires.{master, spare, power, source_by, source_of, dest_of, variable_of, number_of, memory_bit}
 use Rattle.ladder_lower.specs.declared.layout.Layout.{Layout}
 use Rattle.ladder_lower.proofs.AfterLemmas.{after, one_after, where_done, cut_by}
 use Rattle.int_code.proofs.AsleepLemmas.{asleep}
-use Rattle.ladder_lower.proofs.CounterLemmas.{counter_done, moves_nest, shift_done}
+use Rattle.ladder_lower.proofs.CounterLemmas.{counter_done, shift_done}
 use Rattle.ladder_lower.proofs.DeviceLemmas.{pwm_done, receive_done, send_done}
 use Rattle.ladder_lower.proofs.Lowers.{After, levels, terms_of}
 use Rattle.ladder_lower.proofs.NumberLemmas.{held_front, held_back, operand_value, set_done, move_writes, math_writes, table_done, compare_done}
 use Rattle.ladder_lower.proofs.PersistLemmas.{persist_done}
-use Rattle.ladder_lower.proofs.OpenLemmas.{nests_behind}
+use Rattle.ladder_lower.proofs.NestLemmas.{element_closes}
 use Rattle.ladder_lower.proofs.Stands.{Stands, IsHeld, IsNamed, AllHeld}
 use Rattle.ladder_lower.proofs.TimerLemmas.{timer_done}
 use Rattle.ladder_lower.proofs.WriteLemmas.{same, other}
 use Rattle.ladder_lower.proofs.WroteLemmas.{Wrote, nothing_wrote, power_wrote, memory_wrote, spare_wrote, master_wrote, name_wrote, output_is}
 
-module _ (p : Layout) where
-  contact_nests : (neg : Bool) (name : List ℕ) → nests (contact_code p neg name) [] ≡ true
-  contact_nests true name = refl
-  contact_nests false name = refl
-
-  coil_nests : (how : CoilMode) (name : List ℕ) → nests (coil_code p how name) [] ≡ true
-  coil_nests mode.Plain name = refl
-  coil_nests mode.Negated name = refl
-  coil_nests mode.Set name = refl
-  coil_nests mode.Reset name = refl
-
-  timer_nests : (how : TimerHow) (v : ℕ) (limit : ℤ) → nests (timer_code p how v limit) [] ≡ true
-  timer_nests Ton v limit = refl
-  timer_nests Tof v limit = refl
-  timer_nests Rto v limit = refl
-
-  counter_nests : (how : CounterHow) (v : ℕ) (max : ℤ) (k : ℕ) → nests (counter_code p how v max k) [] ≡ true
-  counter_nests Ctu v max k = refl
-  counter_nests Ctd v max k = refl
-  counter_nests Ctc v max k = refl
-
-  move_nests : (v : ℕ) (x : Operand) → nests (where_power p (move_op v (number_of p x))) [] ≡ true
-  move_nests v (Var name) = refl
-  move_nests v (Num n) = refl
-
-  math_nests : (how : MathHow) (v : ℕ) (x y : Operand) → nests (where_power p (math_op how v (number_of p x) (number_of p y))) [] ≡ true
-  math_nests Add v x y = refl
-  math_nests Sub v x y = refl
-  math_nests Mul v x y = refl
-  math_nests Div v x y = refl
-
-  compare_nests : (how : CompareHow) (x y : Operand) → nests (compare_code p how (number_of p x) (number_of p y)) [] ≡ true
-  compare_nests Equ x y = refl
-  compare_nests Neq x y = refl
-  compare_nests Grt x y = refl
-  compare_nests Geq x y = refl
-  compare_nests Les x y = refl
-  compare_nests Leq x y = refl
-
-  shift_nests : (name : List ℕ) (places k : ℕ) → nests (on_rise p k (moves p name places)) [] ≡ true
-  shift_nests name places k = nests_behind (Fi ∷ Fi ∷ Cpy (dest.B (memory_bit p k)) (source.B (power p)) ∷ []) (false ∷ false ∷ []) (moves p name places) [] (moves_nest p name places)
-
-  pub element_nests : (kind : LeafKind) (k : ℕ) → nests (element_code p kind k) [] ≡ true
-  element_nests (Contacts name neg) k = contact_nests neg name
-  element_nests (Coil name how) k = coil_nests how name
-  element_nests (Timer how name delay) k = timer_nests how (variable_of p name) (pos (period p.cycle delay))
-  element_nests (Counter how name max) k = counter_nests how (variable_of p name) max k
-  element_nests (Move dest src) k = move_nests (variable_of p dest) src
-  element_nests (Math how dest a b) k = math_nests how (variable_of p dest) a b
-  element_nests (Compare how a b) k = compare_nests how a b
-  element_nests (Shift name places) k = shift_nests name places k
-  element_nests _ k = refl
+-- what closes by itself nests by itself
+pub element_nests : (p : Layout) (kind : LeafKind) (k : ℕ) → nests (element_code p kind k) [] ≡ true
+element_nests p kind k = ap (λ ops. nests ops []) (sym (append-nil (element_code p kind k))) ∙ (element_closes p kind k).same [] []
 
 pub element_asleep : (p : Layout) (r : Reading) (kind : LeafKind) (k : ℕ) (m : Moment) → all_run m.ifs ≡ false → run r (element_code p kind k) m ≡ m
 element_asleep p r kind k m e = asleep r (element_code p kind k) m (element_nests p kind k) e
@@ -143,9 +86,12 @@ module _ (p : Layout) (r : Reading) (d : ℕ) (m : Moment) (s : Now) where
       subst (λ (o : Bool). After p d m (run r (element_code p Osf k) m) (record { now = with_memory s k x; output = not x && o })) (not-not (s.kept.memory k))
       (rw (on, unmoved, kept) (after d m _ (edge t k x (not x) (not (s.kept.memory k)) lt saved (power_wrote (not x) (spare_wrote x (omega arith) (nothing_wrote s m.store x refl sh))))))
 
-  master_by : (b : Bool) → p.has_master ≡ true → m.store.bit (master p) ≡ b → all_run m.ifs ≡ true → Stands p s m.store → After p d m (run r (element_code p MasterRelay 0) m) (record { now = with_master s (cond b (m.store.bit (power p)) true); output = m.store.bit (power p) })
-  master_by true has v on sh = rw (on, v) (after d m _ (master_wrote (m.store.bit (power p)) has (nothing_wrote s m.store _ refl sh)))
-  master_by false has v on sh = rw (on, v) (after d m _ (master_wrote true has (nothing_wrote s m.store _ refl sh)))
+  -- by the bit and the power
+  master_by : (b x : Bool) → p.has_master ≡ true → m.store.bit (master p) ≡ b → m.store.bit (power p) ≡ x → all_run m.ifs ≡ true → Stands p s m.store → After p d m (run r (element_code p MasterRelay 0) m) (record { now = with_master s (cond b x true); output = x })
+  master_by true true has v w on sh = rw (on, w, same (master p) false (m.store.bit (master p))) (after d m _ (master_wrote true has (master_wrote false has (nothing_wrote s m.store true w sh))))
+  master_by false true has v w on sh = rw (on, w, same (master p) false (m.store.bit (master p))) (after d m _ (master_wrote true has (master_wrote false has (nothing_wrote s m.store true w sh))))
+  master_by true false has v w on sh = rw (on, w, v) (after d m _ (master_wrote false has (nothing_wrote s m.store false w sh)))
+  master_by false false has v w on sh = rw (on, w, v) (after d m _ (master_wrote true has (nothing_wrote s m.store false w sh)))
 
   none_done : Stands p s m.store → After p d m m (record { now = s; output = m.store.bit (power p) })
   none_done sh = record { ifs = refl; shows = sh; power = refl; wires = λ j lo hi. refl }
@@ -170,7 +116,7 @@ element_awake p r g Osr d k m s h lt on sh = osr_done p r d m s k (omega arith) 
 element_awake p r g Osf d k m s h lt on sh = osf_done p r d m s k (omega arith) on sh
 element_awake p r g Short d k m s h lt on sh = none_done p r d m s sh
 element_awake p r g Open d k m s h lt on sh = one_after p r (Clr (dest.B (power p))) d m (record { now = s; output = false }) refl on (power_wrote false (nothing_wrote s m.store _ refl sh))
-element_awake p r g MasterRelay d k m s h lt on sh = master_by p r d m s s.master h.place (sh.master h.place) on sh
+element_awake p r g MasterRelay d k m s h lt on sh = master_by p r d m s s.master (m.store.bit (power p)) h.place (sh.master h.place) refl on sh
 element_awake p r g Placeholder d k m s h lt on sh = none_done p r d m s sh
 element_awake p r g (Comment text) d k m s h lt on sh = none_done p r d m s sh
 element_awake p r g (Timer how name delay) d k m s h lt on sh = timer_done p r d m s name (pos (period p.cycle delay)) how h.variables.0 on sh

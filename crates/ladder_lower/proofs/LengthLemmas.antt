@@ -5,7 +5,7 @@ use Rattle.std.proofs.lemmas.Fmt.{length-decimal-le}
 use Rattle.std.proofs.lemmas.Int.{ints}
 use Rattle.std.proofs.lemmas.List.Elements.{All-head, All-tail}
 use Rattle.std.specs.Fmt.{signed_decimal}
-use Rattle.ld_base.specs.Lines.{joined}
+use Rattle.texts.specs.Lines.{joined}
 use Rattle.int_code.specs.Text.{dest_text, source_text, variable_text, number_text, values_text, two, three, op_words}
 use Rattle.int_code.specs.WellFormed.{Sizes, IsDest, IsSource, IsNumSource, IsInRange}
 use Rattle.int_code.specs.declared.op.BitDest.{BitDest}

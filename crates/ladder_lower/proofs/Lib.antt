@@ -1,6 +1,7 @@
 pub mod NameLemmas
 pub mod NestLemmas
 pub mod RangeLemmas
+pub mod KindLemmas
 pub mod CapLemmas
 pub mod CountLemmas
 pub mod Stands

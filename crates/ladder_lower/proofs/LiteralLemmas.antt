@@ -1,10 +1,8 @@
 -- The numbers that stand in a program's operations have 16 bits.
-use Rattle.std.proofs.Common.{◌≡◌, ℕ, zero, suc, ℤ, pos, Bool, true, false, cond, ◌&&◌, nat_le, List, [], ◌∷◌, ◌++◌, length, All, refl, sym, ◌∙◌}
+use Rattle.std.proofs.Common.{◌≡◌, ℕ, zero, suc, ℤ, pos, Bool, true, false, cond, ◌&&◌, nat_le, List, [], ◌∷◌, ◌++◌, length, All, refl, arith}
 use Rattle.std.proofs.lemmas.List.Elements.{All-nil, All-cons, All-from_recursion}
-use Rattle.std.proofs.lemmas.List.Folds.{list_all-append}
 use Rattle.std.specs.List.{list_all, AllByRecursion}
 use Rattle.std.specs.Str.{bytes_eq}
-use Rattle.ladder_tree.specs.Leaves.{all_leaves}
 use Rattle.ladder_tree.specs.declared.element.CompareHow.{CompareHow}
 use Rattle.ladder_tree.specs.declared.element.CompareHow.TheVariants.{Equ, Neq, Grt, Geq, Les, Leq}
 use Rattle.ladder_tree.specs.declared.element.CounterHow.{CounterHow}
@@ -30,10 +28,11 @@ use Rattle.int_code.specs.declared.op.NumSource.TheVariants.{V, N}
 use Rattle.ladder_lower.specs.ElementCode.{element_code, timer_code, counter_code, on_rise, reached, moves, move_op, math_op, compare_code, coil_code, contact_code}
 use Rattle.ladder_lower.specs.Fit.{is_fit_operand, is_fit, all_fit}
 use Rattle.int_code.specs.Literals.{is_number, IsNumber, HoldsNumber, HoldsNumbers, AllHoldNumbers}
+use Rattle.ladder_lower.specs.Nesting.{nesting_of_all}
 use Rattle.ladder_lower.specs.NodeCode.{program_code}
 use Rattle.ladder_lower.specs.Wires.{number_of}
 use Rattle.ladder_lower.specs.declared.layout.Layout.{Layout}
-use Rattle.ladder_lower.proofs.PartLemmas.{IsShared, program_holds}
+use Rattle.ladder_lower.proofs.PartLemmas.{IsShared, Ready, program_holds}
 
 abbrev AllNumbers : List IntOp → Type 0
 AllNumbers = AllByRecursion HoldsNumbers
@@ -80,7 +79,7 @@ module _ (p : Layout) where
   rise_numbers k ops h = (tt, (tt, numbers_append ops _ h (tt, (tt, (tt, tt)))))
 
   reached_numbers : (v : ℕ) (limit : ℤ) → IsNumber limit → AllNumbers (reached p v limit)
-  reached_numbers v limit h = ((tt, h), (tt, (tt, (tt, (tt, tt)))))
+  reached_numbers v limit h = (tt, ((tt, h), (tt, (tt, tt))))
 
   counter_numbers : (how : CounterHow) (v : ℕ) (max : ℤ) (k : ℕ) → IsNumber max → AllNumbers (counter_code p how v max k)
   counter_numbers Ctu v max k h = numbers_append (on_rise p k (Inc v ∷ [])) (reached p v max) (rise_numbers k (Inc v ∷ []) (tt, tt)) (reached_numbers v max h)
@@ -116,7 +115,7 @@ module _ (p : Layout) where
   element_numbers Osr k h = (tt, (tt, (tt, (tt, (tt, tt)))))
   element_numbers Osf k h = (tt, (tt, (tt, (tt, (tt, (tt, tt))))))
   element_numbers Open k h = (tt, tt)
-  element_numbers MasterRelay k h = (tt, (tt, (tt, (tt, (tt, tt)))))
+  element_numbers MasterRelay k h = (tt, (tt, (tt, (tt, tt))))
   element_numbers (Timer how name delay) k h = timer_numbers how _ _ (limit_is (period p.cycle delay) h)
   element_numbers (Counter how name max) k h = counter_numbers how _ max k h
   element_numbers (Reset name) k h = (tt, (none_is, (tt, tt)))
@@ -132,25 +131,23 @@ module _ (p : Layout) where
   element_numbers (SetPwm name hz) k h = (tt, ((tt, h), (tt, tt)))
   element_numbers (Recv name) k h = (tt, (tt, (tt, tt)))
   element_numbers (Send name) k h = (tt, tt)
-  element_numbers (Persist name) k h = (tt, (tt, (tt, (tt, (tt, (tt, (tt, (tt, (tt, (tt, (tt, (tt, (tt, (tt, (tt, (tt, tt))))))))))))))))
+  element_numbers (Persist name) k h = (tt, (tt, (tt, (tt, (tt, (tt, (tt, (tt, (tt, (tt, (tt, (tt, (tt, (tt, tt))))))))))))))
   element_numbers _ k h = tt
 
-  -- of elements that are fit
-  abbrev FitHolds : List leaf.Leaf → List IntOp → Type 0
-  FitHolds ls ops = all_fit p.cycle ls ≡ true → AllNumbers ops
-
-  shared : IsShared FitHolds
-  shared = record {
-    none = λ h. tt;
-    both = λ ls ms a b f g h. let parts = both_true (all_fit p.cycle ls) (all_fit p.cycle ms) (sym (list_all-append (λ (l : leaf.Leaf). is_fit p.cycle l.kind) ls ms) ∙ h) in numbers_append a b (f parts.0) (g parts.1);
-    set = λ b h. (tt, tt);
-    clear = λ b h. (tt, tt);
-    copy = λ b s h. (tt, tt);
-    set_where = λ s b h. (tt, (tt, (tt, tt)));
+  shared : (deep : ℕ) → IsShared p deep (λ ls ops. AllNumbers ops)
+  shared deep = record {
+    none = tt;
+    both = λ ls ms. numbers_append;
+    set = λ i lt. (tt, tt);
+    clear = λ i lt. (tt, tt);
+    copy = λ i j lt le. (tt, tt);
+    set_where = λ i j lt le. (tt, (tt, (tt, tt)));
   }
 
-  pub program_numbers : (gs : List Rung) → all_fit p.cycle (all_leaves gs) ≡ true → AllHoldNumbers (program_code p gs)
-  program_numbers gs h = All-from_recursion HoldsNumbers (program_code p gs) (program_holds p FitHolds shared (λ l k e. element_numbers l.kind k (both_true (is_fit p.cycle l.kind) true e).0) gs h)
+  pub program_numbers : (gs : List Rung) → Ready p gs → AllHoldNumbers (program_code p gs)
+  program_numbers gs ready =
+      All-from_recursion HoldsNumbers (program_code p gs)
+      (program_holds p (nesting_of_all gs) (λ ls ops. AllNumbers ops) (shared (nesting_of_all gs)) (λ l k apt lt. element_numbers l.kind k apt.fit) gs (omega arith) ready)
 
 -- variables start at numbers of 16 bits
 

@@ -1,5 +1,5 @@
 -- The operations of each part nest by themselves.
-use Rattle.std.proofs.Common.{◌≡◌, ℕ, zero, suc, Bool, true, false, List, [], ◌∷◌, ◌++◌, ℤ, refl, sym, ap, ◌∙◌, append_assoc, append-nil}
+use Rattle.std.proofs.Common.{◌≡◌, ℕ, zero, suc, Bool, true, false, List, [], ◌∷◌, ◌++◌, ℤ, refl, sym, ap, ◌∙◌, append_assoc, append-nil, arith}
 use Rattle.ladder_tree.specs.declared.element.CoilMode.TheVariants as mode
 use Rattle.ladder_tree.specs.declared.element.CoilMode.{CoilMode}
 use Rattle.ladder_tree.specs.declared.element.CompareHow.TheVariants.{Equ, Neq, Grt, Geq, Les, Leq}
@@ -23,10 +23,11 @@ use Rattle.int_code.specs.declared.op.NumSource.TheVariants.{V, N}
 use Rattle.int_code.specs.declared.op.NumSource.{NumSource}
 use Rattle.int_code.specs.declared.op.Shape.TheVariants.{Plain}
 use Rattle.ladder_lower.specs.ElementCode.{where_power, coil_code, contact_code, timer_code, on_rise, counter_code, move_op, math_op, compare_code, moves, element_code}
+use Rattle.ladder_lower.specs.Nesting.{nesting_of_all}
 use Rattle.ladder_lower.specs.NodeCode.{program_code}
 use Rattle.ladder_lower.specs.Wires.{number_of, memory_bit, power}
 use Rattle.ladder_lower.specs.declared.layout.Layout.{Layout}
-use Rattle.ladder_lower.proofs.PartLemmas.{IsShared, program_holds}
+use Rattle.ladder_lower.proofs.PartLemmas.{IsShared, Ready, program_holds}
 
 -- behind it, the open ifs are those before it
 pub record Closes (ops : List IntOp) : Type 0 where
@@ -35,14 +36,14 @@ pub record Closes (ops : List IntOp) : Type 0 where
 two_close : (a b : List IntOp) → Closes a → Closes b → Closes (a ++ b)
 two_close a b f g = record { same = λ rest es. ap (λ o. nests o es) (append_assoc a b rest) ∙ f.same (b ++ rest) es ∙ g.same rest es }
 
-closes_shared : IsShared (λ ls ops. Closes ops)
-closes_shared = record {
+closes_shared : (p : Layout) (deep : ℕ) → IsShared p deep (λ ls ops. Closes ops)
+closes_shared p deep = record {
   none = record { same = λ rest es. refl };
   both = λ ls ms. two_close;
-  set = λ b. record { same = λ rest es. refl };
-  clear = λ b. record { same = λ rest es. refl };
-  copy = λ b s. record { same = λ rest es. refl };
-  set_where = λ s b. record { same = λ rest es. refl };
+  set = λ i lt. record { same = λ rest es. refl };
+  clear = λ i lt. record { same = λ rest es. refl };
+  copy = λ i j lt le. record { same = λ rest es. refl };
+  set_where = λ i j lt le. record { same = λ rest es. refl };
 }
 
 module _ (p : Layout) where
@@ -119,7 +120,7 @@ module _ (p : Layout) where
   element_closes (Persist name) k = record { same = λ rest es. refl }
   element_closes _ k = record { same = λ rest es. refl }
 
-  pub program_nests : (gs : List Rung) → nests (program_code p gs) [] ≡ true
-  program_nests gs =
-      let c = program_holds p (λ ls ops. Closes ops) closes_shared (λ l k. element_closes l.kind k) gs in
+  pub program_nests : (gs : List Rung) → Ready p gs → nests (program_code p gs) [] ≡ true
+  program_nests gs ready =
+      let c = program_holds p (nesting_of_all gs) (λ ls ops. Closes ops) (closes_shared p (nesting_of_all gs)) (λ l k apt lt. element_closes l.kind k) gs (omega arith) ready in
       ap (λ o. nests o []) (sym (append-nil (program_code p gs))) ∙ c.same [] []

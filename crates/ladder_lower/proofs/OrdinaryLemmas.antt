@@ -1,4 +1,4 @@
--- The elements whose operations set no duty, look nothing up and write nothing to the EEPROM.
+-- The elements whose operations set no duty, look nothing up, write nothing to the EEPROM and use no serial line.
 use Rattle.std.proofs.Common.{◌≡◌, ℕ, zero, suc, Bool, true, false, List, ℤ, refl}
 use Rattle.std.proofs.lemmas.List.Folds.{list_any-append}
 use Rattle.std.specs.List.{list_any}
@@ -8,13 +8,13 @@ use Rattle.ladder_tree.specs.declared.element.CompareHow.TheVariants.{Equ, Neq, 
 use Rattle.ladder_tree.specs.declared.element.CompareHow.{CompareHow}
 use Rattle.ladder_tree.specs.declared.element.CounterHow.TheVariants.{Ctu, Ctd, Ctc}
 use Rattle.ladder_tree.specs.declared.element.CounterHow.{CounterHow}
-use Rattle.ladder_tree.specs.declared.element.LeafKind.TheVariants.{Contacts, Coil, Timer, Counter, Move, Math, Compare, Shift, Table, SetPwm, Persist}
+use Rattle.ladder_tree.specs.declared.element.LeafKind.TheVariants.{Contacts, Coil, Timer, Counter, Move, Math, Compare, Shift, Table, SetPwm, Recv, Send, Persist}
 use Rattle.ladder_tree.specs.declared.element.LeafKind.{LeafKind}
 use Rattle.ladder_tree.specs.declared.element.MathHow.TheVariants as math
 use Rattle.ladder_tree.specs.declared.element.MathHow.{MathHow}
 use Rattle.ladder_tree.specs.declared.element.TimerHow.TheVariants.{Ton, Tof, Rto}
 use Rattle.ladder_tree.specs.declared.element.TimerHow.{TimerHow}
-use Rattle.int_code.specs.declared.op.IntOp.TheVariants.{Pwm, Eewr, Tab}
+use Rattle.int_code.specs.declared.op.IntOp.TheVariants.{Pwm, Rx, Tx, Eewr, Tab}
 use Rattle.int_code.specs.declared.op.IntOp.{IntOp}
 use Rattle.int_code.specs.declared.op.NumSource.TheVariants.{V, N}
 use Rattle.int_code.specs.declared.op.NumSource.{NumSource}
@@ -24,6 +24,8 @@ use Rattle.ladder_lower.specs.declared.layout.Layout.{Layout}
 
 abbrev pub is_special : IntOp → Bool
 is_special (Pwm w hz) = true
+is_special (Rx v b) = true
+is_special (Tx w s b) = true
 is_special (Eewr w a) = true
 is_special (Tab v w values) = true
 is_special op = false
@@ -33,6 +35,8 @@ any_special ops = list_any is_special ops
 
 abbrev pub is_special_kind : LeafKind → Bool
 is_special_kind (SetPwm name hz) = true
+is_special_kind (Recv name) = true
+is_special_kind (Send name) = true
 is_special_kind (Persist name) = true
 is_special_kind (Table dest index as_text values) = true
 is_special_kind kind = false

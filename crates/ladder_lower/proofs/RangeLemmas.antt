@@ -1,12 +1,10 @@
 -- The numbers of bits, variables and all else are in range.
-use Rattle.std.proofs.Common.{◌≡◌, ℕ, zero, suc, ◌+◌, ◌<◌, ◌≤◌, Bool, true, false, ◌&&◌, cond, List, [], ◌∷◌, ◌++◌, ℤ, pos, length, map, refl, ap, arith}
+use Rattle.std.proofs.Common.{◌≡◌, ℕ, zero, suc, ◌+◌, ◌<◌, ◌≤◌, Bool, true, false, ◌&&◌, cond, List, [], ◌∷◌, ◌++◌, ℤ, pos, length, refl, ap, arith}
 use Rattle.std.proofs.lemmas.Bool.Decides.{nat_tests}
 use Rattle.std.proofs.lemmas.List.Elements.{All-from_recursion}
 use Rattle.std.specs.Fmt.{decimal}
 use Rattle.std.specs.List.{All, AllByRecursion}
 use Rattle.std.specs.Prelude.{nat_le}
-use Rattle.ladder_tree.specs.Induct.{Each, node_ind}
-use Rattle.ladder_tree.specs.Leaves.{leaves, leaves_in, leaves_step, all_leaves}
 use Rattle.ladder_tree.specs.Names.{is_input, is_output, memories, operand_names, numbered_names}
 use Rattle.ladder_tree.specs.declared.element.CoilMode.TheVariants as mode
 use Rattle.ladder_tree.specs.declared.element.CoilMode.{CoilMode}
@@ -14,7 +12,6 @@ use Rattle.ladder_tree.specs.declared.element.CompareHow.TheVariants.{Equ, Neq, 
 use Rattle.ladder_tree.specs.declared.element.CompareHow.{CompareHow}
 use Rattle.ladder_tree.specs.declared.element.CounterHow.TheVariants.{Ctu, Ctd, Ctc}
 use Rattle.ladder_tree.specs.declared.element.CounterHow.{CounterHow}
-use Rattle.ladder_tree.specs.declared.element.Leaf as leaf
 use Rattle.ladder_tree.specs.declared.element.LeafKind.TheVariants.{Contacts, Coil, Osr, Osf, Open, MasterRelay, Timer, Counter, Reset, Move, Math, Compare, Shift, Table, ReadAdc, SetPwm, Recv, Send, Persist}
 use Rattle.ladder_tree.specs.declared.element.LeafKind.{LeafKind}
 use Rattle.ladder_tree.specs.declared.element.MathHow.TheVariants as math
@@ -23,7 +20,6 @@ use Rattle.ladder_tree.specs.declared.element.Operand.TheVariants.{Var, Num}
 use Rattle.ladder_tree.specs.declared.element.Operand.{Operand}
 use Rattle.ladder_tree.specs.declared.element.TimerHow.TheVariants.{Ton, Tof, Rto}
 use Rattle.ladder_tree.specs.declared.element.TimerHow.{TimerHow}
-use Rattle.ladder_tree.specs.declared.project.Node.{Node}
 use Rattle.ladder_tree.specs.declared.project.Rung.{Rung}
 use Rattle.ladder_meaning.specs.State.{place_of}
 use Rattle.int_code.specs.WellFormed.{Sizes, IsDest, IsSource, IsNumSource, IsInRange}
@@ -34,12 +30,11 @@ use Rattle.int_code.specs.declared.op.NumSource.TheVariants.{V, N}
 use Rattle.int_code.specs.declared.op.NumSource.{NumSource}
 use Rattle.ladder_lower.specs.ElementCode.{coil_code, contact_code, timer_code, on_rise, reached, counter_code, where_power, move_op, math_op, compare_code, moves, persist_code, element_code}
 use Rattle.ladder_lower.specs.Fit.{is_fit}
-use Rattle.ladder_lower.specs.Nesting.{nesting_of_branches, nesting, nesting_in, nesting_step, nesting_of_all}
-use Rattle.ladder_lower.specs.NodeCode.{Piece, ends, join, others_code, parallel_code, piece, piece_step, nodes_piece, rung_start_by, rungs_code, start_by, program_code, memories_of}
+use Rattle.ladder_lower.specs.Nesting.{nesting_of_all}
+use Rattle.ladder_lower.specs.NodeCode.{program_code}
 use Rattle.ladder_lower.specs.Wires.{dest_by, dest_of, source_by, source_of, variable_of, number_of, wire, wires, power, masters}
 use Rattle.ladder_lower.specs.declared.layout.Layout.{Layout}
-use Rattle.ladder_tree.proofs.FoldLemmas.{fold-Leaf, fold-Series, fold-Parallel}
-use Rattle.ladder_lower.proofs.LeafLemmas.{Apt, apt_first, apt_front, apt_back}
+use Rattle.ladder_lower.proofs.PartLemmas.{IsShared, Ready, program_holds}
 use Rattle.ladder_lower.proofs.PlaceLemmas.{place_below}
 use Rattle.ladder_lower.proofs.Stands.{held, AllHeld, IsHeld, IsNamed}
 
@@ -110,8 +105,8 @@ module _ (p : Layout) (z : Sizes) where
   rise_in d k ops lt h s = let b = s.bits in (omega arith, (omega arith, in_append ops _ h (tt, (tt, ((omega arith, omega arith), tt)))))
 
   counter_in : (d : ℕ) (how : CounterHow) (v : ℕ) (max : ℤ) (k : ℕ) → v < z.variables → k + 1 ≤ p.memories → Spans p d z → AllIn (counter_code p how v max k)
-  counter_in d Ctu v max k lt le s = let b = s.bits in in_append (on_rise p k (Inc v ∷ [])) (reached p v max) (rise_in d k (Inc v ∷ []) le (lt, tt) s) ((lt, tt), (omega arith, (tt, (omega arith, (tt, tt)))))
-  counter_in d Ctd v max k lt le s = let b = s.bits in in_append (on_rise p k (Dec v ∷ [])) (reached p v max) (rise_in d k (Dec v ∷ []) le (lt, tt) s) ((lt, tt), (omega arith, (tt, (omega arith, (tt, tt)))))
+  counter_in d Ctu v max k lt le s = let b = s.bits in in_append (on_rise p k (Inc v ∷ [])) (reached p v max) (rise_in d k (Inc v ∷ []) le (lt, tt) s) (omega arith, ((lt, tt), (omega arith, (tt, tt))))
+  counter_in d Ctd v max k lt le s = let b = s.bits in in_append (on_rise p k (Dec v ∷ [])) (reached p v max) (rise_in d k (Dec v ∷ []) le (lt, tt) s) (omega arith, ((lt, tt), (omega arith, (tt, tt))))
   counter_in d Ctc v max k lt le s = rise_in d k (Iflt (V v) (N max) ∷ Inc v ∷ Els ∷ Lit v (pos 0) ∷ Fi ∷ []) le ((lt, tt), (lt, (tt, (lt, (tt, tt))))) s
 
   where_in : (d : ℕ) (op : IntOp) → IsInRange z op → Spans p d z → AllIn (where_power p op)
@@ -151,7 +146,7 @@ module _ (p : Layout) (z : Sizes) where
       let lt = place_below p.persistent name k in
       let q = s.persistent in (
         omega arith,
-        (omega arith, (omega arith, (omega arith, ((v, omega arith), (omega arith, (tt, (tt, (omega arith, (omega arith, ((v, omega arith), (tt, ((v, omega arith), (tt, (tt, (tt, tt))))))))))))))),
+        (omega arith, (omega arith, (omega arith, ((v, omega arith), (tt, ((v, omega arith), (tt, (tt, ((v, omega arith), (omega arith, (tt, (tt, (tt, tt))))))))))))),
       )
 
   table_in : (d : ℕ) (to : List ℕ) (index : Operand) (values : List ℤ) → AllHeld p.variables (to ∷ operand_names index) → nat_le (length values) 60 ≡ true → Spans p d z → IsInRange z (Tab (variable_of p to) (number_of p index) values)
@@ -163,7 +158,7 @@ module _ (p : Layout) (z : Sizes) where
   element_in d Osr k lt h e s = let b = s.bits in ((omega arith, omega arith), (omega arith, (omega arith, (tt, ((omega arith, omega arith), tt)))))
   element_in d Osf k lt h e s = let b = s.bits in ((omega arith, omega arith), ((omega arith, omega arith), (omega arith, (omega arith, (tt, ((omega arith, omega arith), tt))))))
   element_in d Open k lt h e s = let b = s.bits in (omega arith, tt)
-  element_in d MasterRelay k lt h e s = let one : masters p ≡ 1 = ap (λ b. cond b 1 0) h.place in let b = s.bits in (omega arith, ((omega arith, omega arith), (tt, (omega arith, (tt, tt)))))
+  element_in d MasterRelay k lt h e s = let one : masters p ≡ 1 = ap (λ b. cond b 1 0) h.place in let b = s.bits in (omega arith, (omega arith, (tt, ((omega arith, omega arith), tt))))
   element_in d (Timer how name delay) k lt h e s = timer_in d how _ _ (variable_in d name h.variables.0 s) s
   element_in d (Counter how name max) k lt h e s = counter_in d how _ max k (variable_in d name h.variables.0 s) lt s
   element_in d (Reset name) k lt h e s = where_in d (Lit (variable_of p name) (pos 0)) (variable_in d name h.variables.0 s) s
@@ -186,58 +181,15 @@ module _ (p : Layout) (z : Sizes) where
   element_in d _ k lt h e s = tt
 
   module _ (deep : ℕ) (s : Spans p deep z) where
-    abbrev NodeIn : Node → Type 0
-    NodeIn n = (d k : ℕ) → d + nesting n ≤ deep → k + (piece p n).memories ≤ p.memories → Apt p (leaves n) → AllIn ((piece p n).code d k)
+    shared : IsShared p deep (λ ls ops. AllIn ops)
+    shared = record {
+      none = tt;
+      both = λ ls ms. in_append;
+      set = λ i lt. ((let b = s.bits in omega arith), tt);
+      clear = λ i lt. ((let b = s.bits in omega arith), tt);
+      copy = λ i j lt le. (((let b = s.bits in omega arith), (let b = s.bits in omega arith)), tt);
+      set_where = λ i j lt le. ((let b = s.bits in omega arith), ((let b = s.bits in omega arith), (tt, tt)));
+    }
 
-    series_in : (ns : List Node) → Each NodeIn ns → (d k : ℕ) → d + nesting_in ns ≤ deep → k + (nodes_piece p ns).memories ≤ p.memories → Apt p (leaves_in ns) → AllIn ((nodes_piece p ns).code d k)
-    series_in [] h d k le lt all = tt
-    series_in (n ∷ ns) h d k le lt all = in_append _ _ (h.0 d k (omega arith) (omega arith) (apt_front p (leaves n) (leaves_in ns) all)) (series_in ns h.1 d (k + (piece p n).memories) (omega arith) (omega arith) (apt_back p (leaves n) (leaves_in ns) all))
-
-    join_in : (b : Bool) (d : ℕ) → d + 1 ≤ deep → AllIn (join b p d)
-    join_in true d le = let b = s.bits in (omega arith, (omega arith, (tt, tt)))
-    join_in false d le = let b = s.bits in (omega arith, (omega arith, (tt, tt)))
-
-    others_in : (ns : List Node) → Each NodeIn ns → (d k : ℕ) → d + (nesting_in ns + 1) ≤ deep → k + (others_code p (map (piece p) ns)).memories ≤ p.memories → Apt p (leaves_in ns) → AllIn ((others_code p (map (piece p) ns)).code d k)
-    others_in [] h d k le lt all = tt
-    others_in (n ∷ ns) h d k le lt all =
-        let b = s.bits in (
-          (omega arith, omega arith),
-          in_append _ _ (h.0 (d + 1) k (omega arith) (omega arith) (apt_front p (leaves n) (leaves_in ns) all))
-              (in_append _ _ (join_in (ends (map (piece p) ns)) d (omega arith)) (others_in ns h.1 d (k + (piece p n).memories) (omega arith) (omega arith) (apt_back p (leaves n) (leaves_in ns) all))),
-        )
-
-    parallel_in : (ns : List Node) → Each NodeIn ns → (d k : ℕ) → d + nesting_of_branches (map nesting ns) ≤ deep → k + (parallel_code p (map (piece p) ns)).memories ≤ p.memories → Apt p (leaves_in ns) → AllIn ((parallel_code p (map (piece p) ns)).code d k)
-    parallel_in [] h d k le lt all = let b = s.bits in (omega arith, tt)
-    parallel_in (n ∷ []) h d k le lt all = h.0 d k le lt (apt_front p (leaves n) [] all)
-    parallel_in (n ∷ o ∷ ns) h d k le lt all =
-        let b = s.bits in (
-          (omega arith, omega arith),
-          in_append _ _ (h.0 (d + 1) k (omega arith) (omega arith) (apt_front p (leaves n) (leaves_in (o ∷ ns)) all))
-              ((omega arith, omega arith), others_in (o ∷ ns) h.1 d (k + (piece p n).memories) (omega arith) (omega arith) (apt_back p (leaves n) (leaves_in (o ∷ ns)) all)),
-        )
-
-    node_in : (n : Node) → NodeIn n
-    node_in = node_ind NodeIn
-        (λ l. rw (fold-Leaf Piece (piece_step p) l, fold-Leaf ℕ nesting_step l, fold-Leaf (List leaf.Leaf) leaves_step l) (λ d k le lt all. element_in deep l.kind k lt (apt_first p l [] all).named (apt_first p l [] all).fit s))
-        (λ ns h. rw (fold-Series Piece (piece_step p) ns, fold-Series ℕ nesting_step ns, fold-Series (List leaf.Leaf) leaves_step ns) (series_in ns h))
-        (λ ns h. rw (fold-Parallel Piece (piece_step p) ns, fold-Parallel ℕ nesting_step ns, fold-Parallel (List leaf.Leaf) leaves_step ns) (parallel_in ns h))
-
-    each_in : (ns : List Node) → Each NodeIn ns
-    each_in [] = tt
-    each_in (n ∷ ns) = (node_in n, each_in ns)
-
-    rung_start_in : (b : Bool) → p.has_master ≡ b → IsInRange z (rung_start_by b p)
-    rung_start_in true has = let one : masters p ≡ 1 = ap (λ b. cond b 1 0) has in let b = s.bits in (omega arith, omega arith)
-    rung_start_in false has = let b = s.bits in omega arith
-
-    start_in : (b : Bool) → p.has_master ≡ b → AllIn (start_by b p)
-    start_in true has = let one : masters p ≡ 1 = ap (λ b. cond b 1 0) has in let b = s.bits in (omega arith, tt)
-    start_in false has = tt
-
-    rungs_in : (gs : List Rung) (k : ℕ) → nesting_of_all gs ≤ deep → k + memories_of p gs ≤ p.memories → Apt p (all_leaves gs) → AllIn (rungs_code p gs k)
-    rungs_in [] k le lt all = tt
-    rungs_in (g ∷ gs) k le lt all =
-        (rung_start_in p.has_master refl, in_append _ _ (series_in g.nodes (each_in g.nodes) 0 k (omega arith) (omega arith) (apt_front p (leaves_in g.nodes) (all_leaves gs) all)) (rungs_in gs (k + (nodes_piece p g.nodes).memories) (omega arith) (omega arith) (apt_back p (leaves_in g.nodes) (all_leaves gs) all)))
-
-    pub program_in : (gs : List Rung) → nesting_of_all gs ≤ deep → memories_of p gs ≤ p.memories → Apt p (all_leaves gs) → All (IsInRange z) (program_code p gs)
-    program_in gs le lt all = All-from_recursion (IsInRange z) (program_code p gs) (in_append _ _ (start_in p.has_master refl) (rungs_in gs 0 le (omega arith) all))
+    pub program_in : (gs : List Rung) → nesting_of_all gs ≤ deep → Ready p gs → All (IsInRange z) (program_code p gs)
+    program_in gs le ready = All-from_recursion (IsInRange z) (program_code p gs) (program_holds p deep (λ ls ops. AllIn ops) shared (λ l k apt lt. element_in deep l.kind k lt apt.named apt.fit s) gs le ready)

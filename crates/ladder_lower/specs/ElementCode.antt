@@ -2,7 +2,7 @@
 use Rattle.std.specs.Prelude.{ℕ, zero, suc, Bool, true, false, List, [], ◌∷◌, ◌++◌, ℤ, pos}
 use Rattle.std.specs.Fmt.{decimal}
 use Rattle.ladder_tree.specs.declared.element.LeafKind.{LeafKind}
-use Rattle.ladder_tree.specs.declared.element.LeafKind.TheVariants.{Contacts, Coil, Osr, Osf, Open, MasterRelay, Timer, Counter, Reset, Move, Math, Compare, Shift, Table, ReadAdc, SetPwm, Recv, Send, Persist}
+use Rattle.ladder_tree.specs.declared.element.LeafKind.TheVariants.{Contacts, Coil, Osr, Osf, Short, Open, MasterRelay, Placeholder, Comment, Timer, Counter, Reset, Move, Math, Compare, Shift, Table, ReadAdc, SetPwm, Recv, Send, Persist, Linear, Formatted}
 use Rattle.ladder_tree.specs.declared.element.CoilMode.{CoilMode}
 use Rattle.ladder_tree.specs.declared.element.CoilMode.TheVariants as mode
 use Rattle.ladder_tree.specs.declared.element.CompareHow.{CompareHow}
@@ -71,7 +71,7 @@ on_rise p k ops =
 
 -- the power is whether the variable is at the limit or past it
 abbrev pub reached : Layout → ℕ → ℤ → List IntOp
-reached p v limit = Iflt (V v) (N limit) ∷ Clr (dest.B (power p)) ∷ Els ∷ Set (dest.B (power p)) ∷ Fi ∷ []
+reached p v limit = Set (dest.B (power p)) ∷ cut_where p (Iflt (V v) (N limit))
 
 -- CTU and CTD give whether the limit is reached; CTC begins anew behind it.
 abbrev pub counter_code : Layout → CounterHow → ℕ → ℤ → ℕ → List IntOp
@@ -103,14 +103,22 @@ moves p name zero = []
 moves p name (suc zero) = []
 moves p name (suc (suc k)) = Mov (variable_of p (name ++ decimal (suc k))) (variable_of p (name ++ decimal k)) ∷ moves p name (suc k)
 
--- Where there is power and the variable was not loaded, it is, if the EEPROM is not busy. Then, if it is not busy and holds
--- another number, that of the variable is written. The spare wire has what each check answered.
+-- The bit becomes true where there is power, and its opposite where there is none: it is the power where it was true, and
+-- true where it was false.
+abbrev pub master_code : Layout → List IntOp
+master_code p = where_power p (Clr (dest.B (master p))) ++ Not (dest.B (master p)) (source.B (master p)) ∷ []
+
+-- the variable is written where the EEPROM holds another number
+abbrev pub save_code : ℕ → ℕ → List IntOp
+save_code v a = Ifee v a ∷ Els ∷ Eewr (V v) a ∷ Fi ∷ []
+
+-- Where there is power and the EEPROM is not busy, a variable that was not loaded is, and one that was is written where the
+-- EEPROM holds another number. The EEPROM is asked once. The spare wire has what it answered.
 abbrev pub persist_code : Layout → List ℕ → List IntOp
 persist_code p name =
-    Ifs (source.B (power p)) ∷ Ifc (source.B (flag_bit p name))
-    ∷ Eebusy (dest.B (spare p)) ∷ Ifc (source.B (spare p)) ∷ Eerd (variable_of p name) (place_of p.persistent name) ∷ Set (dest.B (flag_bit p name)) ∷ Fi ∷ Fi
-    ∷ Eebusy (dest.B (spare p)) ∷ Ifc (source.B (spare p)) ∷ Ifee (variable_of p name) (place_of p.persistent name) ∷ Els
-    ∷ Eewr (V (variable_of p name)) (place_of p.persistent name) ∷ Fi ∷ Fi ∷ Fi ∷ []
+    Ifs (source.B (power p)) ∷ Eebusy (dest.B (spare p)) ∷ Ifc (source.B (spare p))
+    ∷ Ifs (source.B (flag_bit p name)) ∷ (save_code (variable_of p name) (place_of p.persistent name)
+    ++ Els ∷ Eerd (variable_of p name) (place_of p.persistent name) ∷ Set (dest.B (flag_bit p name)) ∷ Fi ∷ Fi ∷ Fi ∷ [])
 
 abbrev pub element_code : Layout → LeafKind → ℕ → List IntOp
 element_code p (Contacts name neg) k = contact_code p neg name
@@ -118,8 +126,7 @@ element_code p (Coil name how) k = coil_code p how name
 element_code p Osr k = edge_code false p k
 element_code p Osf k = edge_code true p k
 element_code p Open k = Clr (dest.B (power p)) ∷ []
-element_code p MasterRelay k =
-    Ifs (source.B (master p)) ∷ Cpy (dest.B (master p)) (source.B (power p)) ∷ Els ∷ Set (dest.B (master p)) ∷ Fi ∷ []
+element_code p MasterRelay k = master_code p
 element_code p (Timer how name delay) k = timer_code p how (variable_of p name) (pos (period p.cycle delay))
 element_code p (Counter how name max) k = counter_code p how (variable_of p name) max k
 element_code p (Reset name) k = where_power p (Lit (variable_of p name) (pos 0))
@@ -133,5 +140,9 @@ element_code p (SetPwm name hz) k = where_power p (Pwm (V (variable_of p name)) 
 element_code p (Recv name) k = where_power p (Rx (variable_of p name) (dest.B (power p)))
 element_code p (Send name) k = Tx (V (variable_of p name)) (source.B (power p)) (dest.B (power p)) ∷ []
 element_code p (Persist name) k = persist_code p name
--- the others have none
-element_code p _ k = []
+-- these have none
+element_code p Short k = []
+element_code p Placeholder k = []
+element_code p (Comment text) k = []
+element_code p (Linear dest index points) k = []
+element_code p (Formatted name text) k = []

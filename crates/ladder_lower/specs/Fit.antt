@@ -3,7 +3,7 @@ use Rattle.std.specs.Prelude.{ℕ, Bool, true, ◌&&◌, List, length, nat_le}
 use Rattle.std.specs.List.{list_all}
 use Rattle.ladder_tree.specs.declared.element.Leaf as leaf
 use Rattle.ladder_tree.specs.declared.element.LeafKind.{LeafKind}
-use Rattle.ladder_tree.specs.declared.element.LeafKind.TheVariants.{Timer, Counter, Move, Math, Compare, Shift, Table, SetPwm}
+use Rattle.ladder_tree.specs.declared.element.LeafKind.TheVariants.{Contacts, Coil, Osr, Osf, Short, Open, MasterRelay, Placeholder, Comment, Timer, Counter, Reset, Move, Math, Compare, Shift, Table, ReadAdc, SetPwm, Recv, Send, Persist, Linear, Formatted}
 use Rattle.ladder_tree.specs.declared.element.Operand.{Operand}
 use Rattle.ladder_tree.specs.declared.element.Operand.TheVariants.{Var, Num}
 use Rattle.ladder_meaning.specs.Numbers.{period}
@@ -23,7 +23,24 @@ is_fit cycle (Compare how a b) = is_fit_operand a && is_fit_operand b
 is_fit cycle (Shift name places) = nat_le places 60
 is_fit cycle (Table dest index as_text values) = nat_le (length values) 60 && (is_fit_operand index && list_all is_number values)
 is_fit cycle (SetPwm name hz) = nat_le hz most_hertz
-is_fit cycle kind = true
+-- in these there is no number
+is_fit cycle (Contacts name neg) = true
+is_fit cycle (Coil name mode) = true
+is_fit cycle Osr = true
+is_fit cycle Osf = true
+is_fit cycle Short = true
+is_fit cycle Open = true
+is_fit cycle MasterRelay = true
+is_fit cycle Placeholder = true
+is_fit cycle (Comment text) = true
+is_fit cycle (Reset name) = true
+is_fit cycle (ReadAdc name) = true
+is_fit cycle (Recv name) = true
+is_fit cycle (Send name) = true
+is_fit cycle (Persist name) = true
+-- and these two are not built
+is_fit cycle (Linear dest index points) = true
+is_fit cycle (Formatted name text) = true
 
 abbrev pub all_fit : ℕ → List leaf.Leaf → Bool
 all_fit cycle ls = list_all (λ l. is_fit cycle l.kind) ls

@@ -1,12 +1,39 @@
--- The sizes of a lowered program.
-use Rattle.std.specs.Prelude.{◌≡◌, ℕ, ◌+◌, ◌≤◌, List, [], ◌∷◌, length, map}
-use Rattle.ladder_tree.specs.Leaves.{all_leaves}
+-- What lowering asks of a project, and what its program is.
+use Rattle.std.specs.Prelude.{◌≡◌, ◌≢◌, ℕ, ◌+◌, ◌≤◌, true, List, [], ◌∷◌, length, map}
+use Rattle.chip_tables.specs.declared.target.Target.TheVariants.{Interp}
+use Rattle.ladder_tree.specs.Leaves.{all_leaves, depth_of_all}
+use Rattle.ladder_tree.specs.Names.{names_of, all_well_named}
+use Rattle.ladder_tree.specs.Size.{size_of_all}
 use Rattle.ladder_tree.specs.declared.names.Names.{Names}
 use Rattle.ladder_tree.specs.declared.project.Project.{Project}
 use Rattle.ladder_meaning.specs.Cycle.{start_number}
+use Rattle.ladder_meaning.specs.View.{has_set_pwm}
+use Rattle.ladder_rules.specs.Needs.{total}
+use Rattle.ladder_rules.specs.declared.cost.Column.TheVariants.{Ops}
+use Rattle.int_code.specs.Kinds.{kinds, IsWithin}
+use Rattle.int_code.specs.Literals.{AllHoldNumbers}
+use Rattle.int_code.specs.Lowered.{allowed}
+use Rattle.int_code.specs.Uses.{has_pwm}
+use Rattle.int_code.specs.WellFormed.{IsWellFormed}
 use Rattle.int_code.specs.declared.op.IntOp.{IntOp}
 use Rattle.int_code.specs.declared.op.IntOp.TheVariants.{Tab}
 use Rattle.int_code.specs.declared.op.IntProgram.{IntProgram}
+use Rattle.ladder_lower.specs.Careful.{IsCareful}
+use Rattle.ladder_lower.specs.Correct.{KeepsHistory}
+use Rattle.ladder_lower.specs.Devices.{has_serial, has_uart, hertz_in, hertz_wanted}
+use Rattle.ladder_lower.specs.Fit.{all_fit}
+use Rattle.ladder_lower.specs.Masters.{any_master}
+use Rattle.ladder_lower.specs.NodeCode.{program_code}
+use Rattle.ladder_lower.specs.Wires.{layout_of}
+
+-- A project that is lowered, with its names: these are well formed, its numbers fit operations, and it is no larger than a text.
+pub record CanLower (n : Names) (q : Project) : Type 0 where
+  pub names : n ≡ names_of q.rungs
+  pub named : all_well_named (all_leaves q.rungs) ≡ true
+  pub cycle : q.cycle ≢ 0
+  pub fit : all_fit q.cycle (all_leaves q.rungs) ≡ true
+  pub depth : depth_of_all q.rungs ≤ 16
+  pub size : size_of_all q.rungs ≤ 13000
 
 -- The sizes are those of the names. Behind the kept bits, which are relays, memories and start flags, there are at most 48
 -- wires. The variables start as the ladder's do.
@@ -42,3 +69,25 @@ pub record HasRoom (p : IntProgram) : Type 0 where
   pub ops : length p.ops ≤ 1000000
   pub tabs : tabs_in p.ops ≤ 40000
   pub bits : p.bits ≤ 100000
+
+-- the program of a project
+pub record IsLowered (n : Names) (q : Project) (p : IntProgram) : Type 0 where
+  -- its cycles do what the ladder's do
+  pub keeps : KeepsHistory n q p.ops
+  pub formed : IsWellFormed p
+  pub sizes : HasSizes n q p
+  -- the operations are a piece for each element, in order
+  pub code : p.ops ≡ program_code (layout_of n q.cycle (any_master (all_leaves q.rungs))) q.rungs
+  -- they are of the kinds that the public list has, and so no more than the sum of the table of costs
+  pub within : IsWithin (kinds p.kept_bits p.ops) (allowed q.rungs)
+  pub cap : length p.ops ≤ total Ops Interp q.rungs
+  -- the EEPROM is not written while it is busy
+  pub careful : IsCareful p.ops
+  -- the devices are those of the elements
+  pub duty : has_pwm p.ops ≡ has_set_pwm (all_leaves q.rungs)
+  pub hertz : hertz_in p.ops ≡ hertz_wanted (all_leaves q.rungs)
+  pub serial : has_serial p.ops ≡ has_uart (all_leaves q.rungs)
+  -- all that the next steps count is small
+  pub numbers : AllHoldNumbers p.ops
+  pub room : HasRoom p
+  pub small : IsSmall n

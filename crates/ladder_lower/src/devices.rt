@@ -1,12 +1,9 @@
 //! The operations of elements that work on devices: analog inputs, the PWM, the serial line and the EEPROM.
 
-ghost use Rattle.std.specs.Prelude.{◌≡◌, [], ◌∷◌, ◌++◌, OnOk};
+ghost use Rattle.std.specs.Prelude.{◌≡◌, ◌++◌, OnOk};
 ghost use Rattle.ladder_tree.specs.declared.element.LeafKind.{LeafKind};
-ghost use Rattle.ladder_lower.specs.ElementCode.{element_code, persist_code};
-ghost use Rattle.ladder_lower.specs.Wires.{Fits, spare};
-ghost use Rattle.int_code.specs.declared.op.BitDest.{BitDest};
-ghost use Rattle.int_code.specs.declared.op.BitSource.{BitSource};
-ghost use Rattle.int_code.specs.declared.op.IntOp.{IntOp};
+ghost use Rattle.ladder_lower.specs.ElementCode.{element_code, persist_code, save_code};
+ghost use Rattle.ladder_lower.specs.Wires.{Fits};
 
 use crate::layout::Layout;
 use crate::power::emit_where_power;
@@ -56,8 +53,8 @@ pub fn emit_send(ops: &mut Ops, layout: &Layout<'_>, name: &Name) -> Result<(), 
     })
 }
 
-/// Where there is power and the variable was not loaded, it is, if the EEPROM is not busy. Then, if it is not busy and holds
-/// another number, that of the variable is written.
+/// Where there is power and the EEPROM is not busy, a variable that was not loaded is, and one that was is written where the
+/// EEPROM holds another number. The spare wire has what the check answered.
 pub fn emit_persist(ops: &mut Ops, layout: &Layout<'_>, name: &Name) -> Result<(), AllocError>
     requires { Fits layout.now 0 }
     ensures { OnOk result (ops.new ≡ ops.old ++ persist_code layout.now name.now) }
@@ -65,41 +62,39 @@ pub fn emit_persist(ops: &mut Ops, layout: &Layout<'_>, name: &Name) -> Result<(
     let v = layout.variable_of(name);
     let a = layout.persistent_of(name);
     let flag = layout.flag_bit(name);
+    let spare = layout.spare();
     ops.push(IntOp::Ifs {
         s: BitSource::B(layout.power()),
     })?;
+    ops.push(IntOp::Eebusy {
+        b: BitDest::B(spare),
+    })?;
     ops.push(IntOp::Ifc {
+        s: BitSource::B(spare),
+    })?;
+    ops.push(IntOp::Ifs {
         s: BitSource::B(flag),
     })?;
-    emit_is_free(ops, layout)?;
+    emit_save(ops, v, a)?;
+    ops.push(IntOp::Els)?;
     ops.push(IntOp::Eerd { v, a })?;
     ops.push(IntOp::Set {
         b: BitDest::B(flag),
     })?;
     ops.push(IntOp::Fi)?;
     ops.push(IntOp::Fi)?;
-    emit_is_free(ops, layout)?;
+    ops.push(IntOp::Fi)
+}
+
+/// The variable is written where the EEPROM holds another number.
+fn emit_save(ops: &mut Ops, v: u32, a: u32) -> Result<(), AllocError>
+    ensures { OnOk result (ops.new ≡ ops.old ++ save_code v a) }
+{
     ops.push(IntOp::Ifee { v, a })?;
     ops.push(IntOp::Els)?;
     ops.push(IntOp::Eewr {
         w: NumSource::V(v),
         a,
     })?;
-    ops.push(IntOp::Fi)?;
-    ops.push(IntOp::Fi)?;
     ops.push(IntOp::Fi)
-}
-
-/// What follows runs where the EEPROM is not busy. The spare wire has the answer.
-fn emit_is_free(ops: &mut Ops, layout: &Layout<'_>) -> Result<(), AllocError>
-    requires { Fits layout.now 0 }
-    ensures { OnOk result (ops.new ≡ ops.old ++ IntOp.Eebusy (BitDest.B (spare layout.now)) ∷ IntOp.Ifc (BitSource.B (spare layout.now)) ∷ []) }
-{
-    let spare = layout.spare();
-    ops.push(IntOp::Eebusy {
-        b: BitDest::B(spare),
-    })?;
-    ops.push(IntOp::Ifc {
-        s: BitSource::B(spare),
-    })
 }

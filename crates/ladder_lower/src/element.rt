@@ -173,23 +173,17 @@ fn emit_open(ops: &mut Ops, layout: &Layout<'_>) -> Result<(), AllocError>
     })
 }
 
-/// The master relay bit becomes the power where it is true, and true where it is false. The power stays.
+/// The master relay bit becomes the power where it is true, and true where it is false: true where there is power, and its
+/// opposite where there is none. The power stays.
 fn emit_master(ops: &mut Ops, layout: &Layout<'_>) -> Result<(), AllocError>
     requires { Fits layout.now 0 }
     ensures { OnOk result (ops.new ≡ ops.old ++ element_code layout.now LeafKind.MasterRelay 0) }
 {
-    let power = layout.power();
     let master = layout.master();
-    ops.push(IntOp::Ifs {
+    let b = BitDest::B(master);
+    emit_where_power(ops, layout, IntOp::Clr { b })?;
+    ops.push(IntOp::Not {
+        b,
         s: BitSource::B(master),
-    })?;
-    ops.push(IntOp::Cpy {
-        b: BitDest::B(master),
-        s: BitSource::B(power),
-    })?;
-    ops.push(IntOp::Els)?;
-    ops.push(IntOp::Set {
-        b: BitDest::B(master),
-    })?;
-    ops.push(IntOp::Fi)
+    })
 }

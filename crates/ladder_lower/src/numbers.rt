@@ -142,11 +142,10 @@ fn emit_reached(ops: &mut Ops, layout: &Layout<'_>, v: u32, limit: i16) -> Resul
     ensures { OnOk result (ops.new ≡ ops.old ++ reached layout.now v limit) }
 {
     let b = BitDest::B(layout.power());
-    emit_is_below(ops, v, limit)?;
-    ops.push(IntOp::Clr { b })?;
-    ops.push(IntOp::Els)?;
+    let w = NumSource::V(v);
+    let u = NumSource::N(limit);
     ops.push(IntOp::Set { b })?;
-    ops.push(IntOp::Fi)
+    emit_cut_where(ops, layout, IntOp::Iflt { w, u })
 }
 
 /// One more, and 0 behind `max`.

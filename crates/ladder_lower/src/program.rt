@@ -1,22 +1,13 @@
 //! The program of a project.
 
-ghost use Rattle.std.specs.Prelude.{◌≡◌, ◌≢◌, ◌+◌, ◌≤◌, true, [], ◌∷◌, ◌++◌, length, map, IfOk, OnOk};
-ghost use Rattle.ladder_tree.specs.Leaves.{all_leaves, depth_of_all};
-ghost use Rattle.ladder_tree.specs.Names.{names_of, all_well_named};
-ghost use Rattle.ladder_tree.specs.Size.{size_of_all};
+ghost use Rattle.std.specs.Prelude.{◌≡◌, ◌≢◌, ◌+◌, ◌≤◌, true, [], ◌∷◌, ◌++◌, map, IfOk, OnOk};
+ghost use Rattle.ladder_tree.specs.Leaves.{all_leaves};
 ghost use Rattle.ladder_tree.specs.declared.project.Project.{Project};
 ghost use Rattle.ladder_meaning.specs.Cycle.{start_number};
-ghost use Rattle.ladder_meaning.specs.View.{has_set_pwm};
-ghost use Rattle.int_code.specs.Caps.{ops_cap};
-ghost use Rattle.int_code.specs.WellFormed.{IsWellFormed};
-ghost use Rattle.ladder_lower.specs.Careful.{IsCareful};
-ghost use Rattle.ladder_lower.specs.Correct.{KeepsHistory};
 ghost use Rattle.ladder_lower.specs.Fit.{all_fit};
 ghost use Rattle.ladder_lower.specs.Nesting.{nesting_of_all};
 ghost use Rattle.ladder_lower.specs.NodeCode.{rung_start, rungs_code, program_code, memories_of};
-ghost use Rattle.ladder_lower.specs.Outcome.{HasSizes, IsSmall, HasRoom};
-ghost use Rattle.int_code.specs.Literals.{AllHoldNumbers};
-ghost use Rattle.int_code.specs.Uses.{has_pwm};
+ghost use Rattle.ladder_lower.specs.Outcome.{CanLower, IsLowered, HasSizes, IsSmall};
 ghost use Rattle.ladder_lower.specs.Wires.{Fits};
 
 use crate::layout::Layout;
@@ -31,21 +22,8 @@ use std::alloc::{AllocError, Global};
 
 /// The program of a project. Its operations keep the ladder's history.
 pub fn lower(alloc: Global, project: &Project, names: &Names) -> Result<IntProgram, AllocError>
-    requires names { names.now ≡ names_of project.now.rungs }
-    requires named { all_well_named (all_leaves project.now.rungs) ≡ true }
-    requires cycle { project.now.cycle ≢ 0 }
-    requires fit { all_fit project.now.cycle (all_leaves project.now.rungs) ≡ true }
-    requires depth { depth_of_all project.now.rungs ≤ 16 }
-    requires size { size_of_all project.now.rungs ≤ 13000 }
-    ensures formed { IfOk result IsWellFormed }
-    ensures sizes { IfOk result (HasSizes names.now project.now) }
-    ensures keeps { IfOk result (λ p. KeepsHistory names.now project.now p.ops) }
-    ensures careful { IfOk result (λ p. IsCareful p.ops) }
-    ensures pwm { IfOk result (λ p. has_pwm p.ops ≡ has_set_pwm (all_leaves project.now.rungs)) }
-    ensures cap { IfOk result (λ p. length p.ops ≤ ops_cap project.now.rungs) }
-    ensures room { IfOk result HasRoom }
-    ensures numbers { IfOk result (λ p. AllHoldNumbers p.ops) }
-    ensures small { IfOk result (λ p. IsSmall names.now) }
+    requires { CanLower names.now project.now }
+    ensures { IfOk result (IsLowered names.now project.now) }
 {
     let rungs = project.rungs.as_slice();
     let layout = Layout::new(alloc, names, project.cycle, has_master(rungs))?;

@@ -3,8 +3,8 @@ use Rattle.std.specs.Prelude.{ℕ, ◌+◌, true, false, List, [], ◌∷◌, �
 use Rattle.std.specs.Str.{bytes_eq}
 use Rattle.ladder_tree.specs.declared.element.Leaf as leaf
 use Rattle.ladder_tree.specs.declared.element.LeafKind.{LeafKind}
-use Rattle.ladder_tree.specs.declared.element.LeafKind.TheVariants.{Timer}
-use Rattle.ladder_tree.specs.declared.element.TimerHow.TheVariants.{Tof}
+use Rattle.ladder_tree.specs.declared.element.LeafKind.TheVariants.{Contacts, Coil, Osr, Osf, Short, Open, MasterRelay, Placeholder, Comment, Timer, Counter, Reset, Move, Math, Compare, Shift, Table, ReadAdc, SetPwm, Recv, Send, Persist, Linear, Formatted}
+use Rattle.ladder_tree.specs.declared.element.TimerHow.TheVariants.{Ton, Tof, Rto}
 use Rattle.ladder_tree.specs.declared.project.Project.{Project}
 use Rattle.ladder_tree.specs.declared.project.Rung.{Rung}
 use Rattle.ladder_tree.specs.Leaves.{all_leaves}
@@ -19,7 +19,31 @@ terms p = record { cycle = p.cycle; persistent = (names_of p.rungs).persistent }
 
 abbrev pub start_by : ℕ → LeafKind → List ℕ → ℤ → ℤ
 start_by cycle (Timer Tof timer delay) name other = if bytes_eq timer name then pos (period cycle delay) else other
-start_by cycle _ name other = other
+start_by cycle (Timer Ton n delay) name other = other
+start_by cycle (Timer Rto n delay) name other = other
+start_by cycle (Contacts n neg) name other = other
+start_by cycle (Coil n mode) name other = other
+start_by cycle Osr name other = other
+start_by cycle Osf name other = other
+start_by cycle Short name other = other
+start_by cycle Open name other = other
+start_by cycle MasterRelay name other = other
+start_by cycle Placeholder name other = other
+start_by cycle (Comment t) name other = other
+start_by cycle (Counter how n max) name other = other
+start_by cycle (Reset n) name other = other
+start_by cycle (Move dest src) name other = other
+start_by cycle (Math how dest a b) name other = other
+start_by cycle (Compare how a b) name other = other
+start_by cycle (Shift n places) name other = other
+start_by cycle (Table dest index as_t values) name other = other
+start_by cycle (ReadAdc n) name other = other
+start_by cycle (SetPwm n hz) name other = other
+start_by cycle (Recv n) name other = other
+start_by cycle (Send n) name other = other
+start_by cycle (Persist n) name other = other
+start_by cycle (Linear dest index points) name other = other
+start_by cycle (Formatted n t) name other = other
 
 -- a TOF's variable starts at its period, any other at 0
 abbrev pub start_number : ℕ → List leaf.Leaf → List ℕ → ℤ

@@ -1,5 +1,5 @@
 -- Timers, counters, arithmetic and comparisons on signed 16-bit numbers.
-use Rattle.std.specs.Prelude.{ℕ, ◌/◌, Bool, true, false, not, List, ℤ, pos, negsuc, ◌+ℤ◌, ◌-ℤ◌, ◌*ℤ◌, int_lt, int_le, int_div, if◌then◌else◌, slice_get, Option, None}
+use Rattle.std.specs.Prelude.{◌≡◌, ℕ, ◌/◌, Bool, true, false, not, ◌&&◌, List, ℤ, pos, negsuc, ◌+ℤ◌, ◌-ℤ◌, ◌*ℤ◌, int_lt, int_le, int_div, if◌then◌else◌, slice_get, Option, None}
 use Rattle.std.specs.Ordering.{int_eq}
 use Rattle.ladder_tree.specs.declared.element.CompareHow.{CompareHow}
 use Rattle.ladder_tree.specs.declared.element.CompareHow.TheVariants.{Equ, Neq, Grt, Geq, Les, Leq}
@@ -10,6 +10,13 @@ use Rattle.ladder_tree.specs.declared.element.MathHow.TheVariants.{Add, Sub, Mul
 use Rattle.ladder_tree.specs.declared.element.TimerHow.{TimerHow}
 use Rattle.ladder_tree.specs.declared.element.TimerHow.TheVariants.{Ton, Tof, Rto}
 use Rattle.ld_base.specs.Wrap.{wrap}
+
+-- a number has 16 bits with a sign: it is from -32768 to 32767
+abbrev pub is_number : ℤ → Bool
+is_number n = int_le (negsuc 32767) n && int_le n (pos 32767)
+
+abbrev pub IsNumber : ℤ → Type 0
+IsNumber n = is_number n ≡ true
 
 -- the number behind n, which is -32768 behind 32767
 abbrev pub next : ℤ → ℤ

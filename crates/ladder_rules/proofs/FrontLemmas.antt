@@ -1,19 +1,10 @@
--- What is left of a tree at a step of a loop: the step's node, and the nodes behind it.
-use Rattle.std.proofs.Common.{◌≡◌, ℕ, zero, suc, ◌+◌, ◌<◌, ◌≤◌, Bool, true, false, ◌&&◌, nat_eq, List, [], ◌∷◌, ◌++◌, length, get_or, drop, map, refl, sym, ap, ◌∙◌, arith, add-one, drop-cons}
+-- What is left of a tree, in its places, at a step of a loop: the step's node, and the nodes behind it.
+use Rattle.std.proofs.Common.{◌≡◌, ℕ, zero, suc, ◌+◌, ◌<◌, Bool, true, false, ◌&&◌, nat_eq, List, [], ◌∷◌, ◌++◌, length, get_or, drop, map, sym, ap, ◌∙◌, arith, add-one}
 use Rattle.std.proofs.lemmas.Bool.Decides.{nat_tests}
-use Rattle.ladder_tree.specs.Leaves.{leaves, leaves_in, all_leaves}
 use Rattle.ladder_tree.specs.declared.project.Node.{Node}
 use Rattle.ladder_tree.specs.declared.project.Rung.{Rung}
+use Rattle.ladder_tree.proofs.FrontLemmas.{at_front}
 use Rattle.ladder_rules.specs.Places.{placed, placed_series, placed_parallel, all_placed, is_last}
-
-at_front : {A : Type 0} (xs : List A) (i : ℕ) (x : A) → i < length xs → x ≡ get_or xs i x → drop i xs ≡ x ∷ drop (i + 1) xs
-at_front xs i x lt is = rw add-one (drop-cons xs i x lt ∙ ap (λ y. y ∷ drop (suc i) xs) (sym is))
-
-pub nodes_front : (ns : List Node) (i : ℕ) (n : Node) → i < length ns → n ≡ get_or ns i n → leaves_in (drop i ns) ≡ leaves n ++ leaves_in (drop (i + 1) ns)
-nodes_front ns i n lt is = ap leaves_in (at_front ns i n lt is)
-
-pub rungs_front : (gs : List Rung) (i : ℕ) (g : Rung) → i < length gs → g ≡ get_or gs i g → all_leaves (drop i gs) ≡ leaves_in g.nodes ++ all_leaves (drop (i + 1) gs)
-rungs_front gs i g lt is = ap all_leaves (at_front gs i g lt is)
 
 same_test : (a b : ℕ) → nat_eq (suc a) (suc b) ≡ nat_eq a b
 same_test a b = grind (arith, nat_tests)
@@ -36,12 +27,6 @@ parallel_front ns i n end lt is = ap (λ xs. placed_parallel xs end) (at_front n
 
 pub placed_front : (gs : List Rung) (i : ℕ) (g : Rung) → i < length gs → g ≡ get_or gs i g → all_placed (drop i gs) ≡ placed_series g.nodes true ++ all_placed (drop (i + 1) gs)
 placed_front gs i g lt is = ap all_placed (at_front gs i g lt is)
-
-pub none_behind : {A : Type 0} (xs : List A) (i : ℕ) → length xs ≤ i → [] ≡ drop i xs
-none_behind [] zero le = refl
-none_behind [] (suc i) le = refl
-none_behind (x ∷ xs) zero le = absurd (omega arith)
-none_behind (x ∷ xs) (suc i) le = none_behind xs i (omega arith)
 
 pub and_so : (a b w : Bool) → a ≡ true → w ≡ b → w ≡ (a && b)
 and_so true b w t e = e

@@ -23,7 +23,7 @@ use Rattle.ladder_rules.specs.Limits.{IsShort, IsWithinLimits, extent}
 use Rattle.ladder_rules.specs.Needs.{row_of_element, steps, fixed, growing, element_cost, cost_step, node_cost, nodes_cost, rungs_cost, total, uses, feature, feature_words}
 use Rattle.ladder_rules.specs.declared.cost.Column.{Column}
 use Rattle.ladder_rules.specs.declared.cost.Column.TheVariants.{Words, Cycles, Ops}
-use Rattle.ladder_rules.proofs.FoldLemmas.{fold-Leaf, fold-Series, fold-Parallel}
+use Rattle.ladder_tree.proofs.FoldLemmas.{fold-Leaf, fold-Series, fold-Parallel}
 
 record IsLow (c : Cost) : Type 0 where
   words : c.words ≤ 5000

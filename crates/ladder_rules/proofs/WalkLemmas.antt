@@ -13,7 +13,7 @@ use Rattle.ladder_tree.specs.declared.project.Rung.{Rung}
 use Rattle.ladder_rules.specs.Places.{Placed, Placing, Spot, placed, placed_series, placed_step, is_last, in_series, in_parallel, all_placed, spots, spots_behind}
 use Rattle.ladder_rules.specs.Verdict.{first_fault}
 use Rattle.ladder_rules.specs.Walk.{spot_at, or_on, walk, verdict}
-use Rattle.ladder_rules.proofs.FoldLemmas.{fold-Leaf, fold-Series, fold-Parallel}
+use Rattle.ladder_tree.proofs.FoldLemmas.{fold-Leaf, fold-Series, fold-Parallel}
 
 abbrev pub goes_on : Result ℕ ProjectFault → (ℕ → Result ℕ ProjectFault) → Result ℕ ProjectFault
 goes_on (Ok n) next = next n

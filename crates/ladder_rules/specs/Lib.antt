@@ -1,7 +1,14 @@
+-- What the rules and the needs mean.
+pub mod ChipRules
+pub mod Kinds
 pub mod Limits
 pub mod Needs
+pub mod Pins
 pub mod Places
 pub mod Rules
-pub mod Timers
+pub mod Settings
 pub mod Verdict
+-- What only the code and its proofs speak of.
+pub mod Owners
+pub mod Timers
 pub mod Walk

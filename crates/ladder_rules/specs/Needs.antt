@@ -19,6 +19,7 @@ use Rattle.ladder_tree.specs.declared.project.Node.TheOpen.{Node-F}
 use Rattle.ladder_tree.specs.declared.project.Node.TheFolds.{fold-Node}
 use Rattle.ladder_tree.specs.declared.project.Project.{Project}
 use Rattle.ladder_tree.specs.declared.project.Rung.{Rung}
+use Rattle.ladder_rules.specs.Kinds.{is_pwm, is_persist, is_uart, is_adc}
 use Rattle.ladder_rules.specs.Limits.{extent}
 use Rattle.ladder_rules.specs.declared.cost.Column.{Column}
 use Rattle.ladder_rules.specs.declared.cost.Column.TheVariants.{Words, Cycles, Ops}
@@ -103,10 +104,6 @@ rungs_cost c t (g ∷ gs) = fixed c t cost.Rung + (nodes_cost c t g.nodes + rung
 abbrev pub total : Column → Target → List Rung → ℕ
 total c t gs = fixed c t cost.Base + rungs_cost c t gs
 
-abbrev pub is_pwm : LeafKind → Bool
-is_pwm (SetPwm name hz) = true
-is_pwm _ = false
-
 abbrev pub has_mul : LeafKind → Bool
 has_mul (Math Mul dest a b) = true
 has_mul k = is_pwm k
@@ -114,19 +111,6 @@ has_mul k = is_pwm k
 abbrev pub has_div : LeafKind → Bool
 has_div (Math Div dest a b) = true
 has_div k = is_pwm k
-
-abbrev pub is_persist : LeafKind → Bool
-is_persist (Persist name) = true
-is_persist _ = false
-
-abbrev pub is_uart : LeafKind → Bool
-is_uart (Recv name) = true
-is_uart (Send name) = true
-is_uart _ = false
-
-abbrev pub is_adc : LeafKind → Bool
-is_adc (ReadAdc name) = true
-is_adc _ = false
 
 -- which elements make a feature's words count, once for all of them
 abbrev pub uses : CostKind → LeafKind → Bool

@@ -1,5 +1,5 @@
 -- The rules for single elements.
-use Rattle.std.specs.Prelude.{ℕ, ◌/◌, nat_eq, nat_lt, Bool, true, false, not, ◌&&◌, ◌||◌, List, [], ◌∷◌, Option, Some, None}
+use Rattle.std.specs.Prelude.{ℕ, ◌/◌, nat_eq, nat_lt, Bool, true, false, not, ◌&&◌, ◌||◌, if◌then◌else◌, List, [], ◌∷◌, Option, Some, None}
 use Rattle.std.specs.Bool.{then_some}
 use Rattle.std.specs.List.{find}
 use Rattle.std.specs.Option.{option_map, option_or}
@@ -13,9 +13,11 @@ use Rattle.ladder_tree.specs.declared.element.LeafKind.TheVariants.{Contacts, Co
 use Rattle.ladder_tree.specs.declared.fault.ProjectFault.{ProjectFault}
 use Rattle.ladder_tree.specs.declared.fault.ProjectFault.TheVariants as fault
 use Rattle.ladder_tree.specs.declared.project.Project.{Project}
+use Rattle.ladder_rules.specs.ChipRules.{chip_fault}
+use Rattle.ladder_rules.specs.Pins.{is_chip}
 use Rattle.ladder_rules.specs.Places.{Spot}
 use Rattle.ladder_rules.specs.declared.rule.ElementRule.{ElementRule}
-use Rattle.ladder_rules.specs.declared.rule.ElementRule.TheVariants.{NotRightmost, WrongKind, TimerTwice, TimerShort, TimerLong, PwmTwoRates}
+use Rattle.ladder_rules.specs.declared.rule.ElementRule.TheVariants.{NotRightmost, WrongKind, TimerTwice, TimerShort, TimerLong, PwmTwoRates, OnChip}
 
 -- the elements that must stand at the right end
 abbrev pub ends_rung : LeafKind → Bool
@@ -101,3 +103,4 @@ fault_of TimerTwice p s = option_map (λ l. fault.TimerTwice s.leaf.line l.line)
 fault_of TimerShort p s = then_some (is_short p.cycle s.leaf.kind) (fault.TimerShort s.leaf.line)
 fault_of TimerLong p s = then_some (is_long p.cycle s.leaf.kind) (fault.TimerLong s.leaf.line)
 fault_of PwmTwoRates p s = then_some (are_apart (rate_of s.leaf.kind) (first_rate (all_leaves p.rungs))) (fault.PwmTwoRates s.leaf.line)
+fault_of (OnChip r) p s = if is_chip p.target then chip_fault r p s.leaf else None

@@ -1,17 +1,19 @@
 //! The rules that a ladder has to keep, and what it needs at most.
 #![tactic(auto)]
 
+mod chip_rule;
 mod cost;
+mod kinds;
 mod legal;
 mod need;
+mod owners;
+mod pins;
 mod rule;
 mod search;
+mod settings;
 mod survey;
 mod timers;
 mod walk;
 
 pub use legal::{Legal, check};
 pub use need::{boot_cap, cycle_cap, word_need};
-
-#[cfg(test)]
-mod tests;

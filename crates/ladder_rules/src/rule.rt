@@ -4,9 +4,12 @@ ghost use Rattle.std.specs.Prelude.{◌≡◌, take};
 ghost use Rattle.std.specs.Option.{option_map};
 ghost use Rattle.ladder_tree.specs.Leaves.{all_leaves};
 ghost use Rattle.ladder_rules.specs.Rules.{ends_rung, is_of_kind, earlier_timer, is_short, is_long, rate_of, are_apart, fault_of};
+ghost use Rattle.ladder_rules.specs.Pins.{is_chip};
 ghost use Rattle.ladder_rules.specs.Rules.{first_rate as rate_in};
 ghost use Rattle.ladder_rules.specs.Walk.{spot_at};
 
+use crate::chip_rule::{ChipRule, chip_fault};
+use crate::pins::is_chip;
 use crate::search::{first_rate, first_timer};
 use ladder_tree::element::{CounterHow, Leaf, LeafKind};
 use ladder_tree::fault::ProjectFault;
@@ -25,6 +28,7 @@ pub enum ElementRule {
     TimerShort,
     TimerLong,
     PwmTwoRates,
+    OnChip(ChipRule),
 }
 
 /// A project whose elements are judged, and the hertz of its first SET_PWM.
@@ -76,6 +80,13 @@ pub fn fault_at(
         }
         ElementRule::PwmTwoRates => {
             has_other_rate(ladder.first_rate, kind).then_some(ProjectFault::PwmTwoRates { line })
+        }
+        ElementRule::OnChip(rule) => {
+            if is_chip(project.target) {
+                chip_fault(rule, project, leaf)
+            } else {
+                None
+            }
         }
     }
 }

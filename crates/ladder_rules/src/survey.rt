@@ -5,6 +5,7 @@ ghost use Rattle.std.specs.List.{list_any};
 ghost use Rattle.ladder_tree.specs.Leaves.{leaves, leaves_in, all_leaves};
 ghost use Rattle.ladder_rules.specs.Needs.{uses, has_mul, has_div, tofs_in};
 
+use crate::kinds::{is_adc, is_persist, is_pwm, is_uart};
 use chip_tables::CostKind;
 use ladder_tree::element::{LeafKind, MathHow, TimerHow};
 use ladder_tree::project::{Node, Rung};
@@ -16,10 +17,10 @@ fn uses(feature: CostKind, kind: &LeafKind) -> bool
     match feature {
         CostKind::MulFeature => has_mul(kind),
         CostKind::DivFeature => has_div(kind),
-        CostKind::PersistFeature => matches!(kind, LeafKind::Persist { .. }),
-        CostKind::UartFeature => matches!(kind, LeafKind::Recv { .. } | LeafKind::Send { .. }),
-        CostKind::AdcFeature => matches!(kind, LeafKind::ReadAdc { .. }),
-        CostKind::PwmFeature => matches!(kind, LeafKind::SetPwm { .. }),
+        CostKind::PersistFeature => is_persist(kind),
+        CostKind::UartFeature => is_uart(kind),
+        CostKind::AdcFeature => is_adc(kind),
+        CostKind::PwmFeature => is_pwm(kind),
         _ => false,
     }
 }

@@ -12,8 +12,11 @@ use Rattle.hex.specs.Hex.{decode_of}
 use Rattle.hex.specs.declared.error.FromHexError.{FromHexError}
 use Rattle.ladder_tree.specs.declared.names.Names.{Names}
 use Rattle.ladder_meaning.specs.declared.reading.Reading.{Reading}
-use Rattle.ladder_trace.specs.Token.{digits_to, cut, level, place_in, most_analog, give_input, give_analog, give_at, give_byte, is_one, give, Given, with_key, pair_gives, token_gives, tokens_give, begun, IsReadingOf}
-use Rattle.ladder_trace.specs.Line.{without_return, is_skipped, tokens, Draft, eeprom_size, filled, start, eeprom_by, eeprom_alone, eeprom_says, most_cycles, timed, with_step, step_says, words_say, line_says}
+use Rattle.ladder_trace.specs.Token.{level, place_in, most_analog, give_input, give_analog, give_at, give_byte, is_one, give, Given, pair_gives, token_gives, tokens_give, begun, IsReadingOf}
+use Rattle.texts.specs.Digits.{digits_to}
+use Rattle.texts.specs.Lines.{cut, without_return}
+use Rattle.texts.specs.Keys.{with_key}
+use Rattle.ladder_trace.specs.Line.{is_skipped, tokens, Draft, eeprom_size, filled, start, eeprom_by, eeprom_alone, eeprom_says, most_cycles, timed, with_step, step_says, words_say, line_says}
 use Rattle.ladder_trace.specs.Trace.{or_refused, read_from, read, trace_of, IsTraceOf}
 
 -- nothing is said of the value

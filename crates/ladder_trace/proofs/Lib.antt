@@ -1,5 +1,2 @@
-pub mod DigitLemmas
-pub mod KeyLemmas
-pub mod CutLemmas
 pub mod WordLemmas
 pub mod FineLemmas

@@ -1,11 +1,8 @@
--- The words of a line, and the bytes by which a trace is judged.
-use Rattle.std.proofs.Common.{◌≡◌, ◌≢◌, ℕ, ◌+◌, ◌≤◌, Bool, true, false, List, [], ◌∷◌, ◌++◌, length, refl, sym, ap, ◌∙◌, append_assoc, arith, All}
+-- The words of a line.
+use Rattle.std.proofs.Common.{◌≡◌, ◌≢◌, ℕ, Bool, true, false, List, [], ◌∷◌, ◌++◌, refl, sym, ap, ◌∙◌, append_assoc, All}
 use Rattle.std.specs.Prelude.{filter}
-use Rattle.std.proofs.lemmas.List.{take_all}
-use Rattle.ld_base.specs.Lines.{pieces, IsFirstPiece}
-use Rattle.ld_base.proofs.LineLemmas.{first_piece, pieces-last}
-use Rattle.ladder_trace.specs.Line.{is_some_bytes}
-use Rattle.ladder_trace.specs.Trace.{judged, most_bytes}
+use Rattle.texts.specs.Lines.{pieces, is_some_bytes, IsFirstPiece}
+use Rattle.texts.proofs.LineLemmas.{first_piece, pieces-last}
 
 one_more : (p : List ℕ) (ps : List (List ℕ)) → filter is_some_bytes (p ∷ ps) ≡ filter is_some_bytes (p ∷ []) ++ filter is_some_bytes ps
 one_more p ps = by (is_some_bytes p) refl
@@ -24,6 +21,3 @@ words_more old new all rest piece behind h now before =
 
 pub words_end : (old new all : List (List ℕ)) (rest : List ℕ) → All (λ x. x ≢ 32) rest → new ≡ old ++ filter is_some_bytes (rest ∷ []) → old ++ filter is_some_bytes (pieces 32 rest) ≡ all → new ≡ all
 words_end old new all rest clean now before = now ∙ ap (λ ps. old ++ filter is_some_bytes ps) (sym (pieces-last 32 rest clean)) ∙ before
-
-pub judged_all : (text : List ℕ) → length text ≤ most_bytes → judged text ≡ text
-judged_all text h = take_all (most_bytes + 1) text (omega arith)

@@ -1,6 +1,7 @@
 -- What the code holds, as the definitions have it.
-use Rattle.std.specs.Prelude.{◌≡◌, ℕ, Bool, true, false, List, length, map, Option, None, Some, Ok, Err}
+use Rattle.std.specs.Prelude.{◌≡◌, ℕ, Bool, List, length, Option, Ok, Err}
 use Rattle.std.specs.Option.{option_map}
+use Rattle.texts.specs.Keys.{keys_of, Takes}
 use Rattle.std.specs.HashSet.{HashSet}
 use Rattle.std.specs.Borrow.{Bor}
 use Rattle.ladder_tree.specs.declared.names.Names.{Names}
@@ -13,21 +14,12 @@ use Rattle.ladder_trace.specs.Token.{Given}
 use Rattle.ladder_trace.specs.Line.{Draft}
 use Rattle.ladder_trace.specs.Trace.{read}
 
--- an answer, and what it leaves where it is yes
-abbrev pub Takes : {A : Type 0} → Option A → Bool → A → Type 0
-Takes o true a = o ≡ Some a
-Takes o false a = o ≡ None
-
 abbrev pub reading : Levels → Reading
 reading l = record { inputs = l.inputs.items; analog = l.analog.items; rx = l.rx; tx_busy = l.tx_busy; ee_busy = l.ee_busy }
 
 -- an answer to all tokens of a step, and the reading that they leave where it is yes
 abbrev pub Gives : Option Given → Bool → Reading → Type 0
 Gives o ok r = Takes (option_map (λ g. g.reading) o) ok r
-
--- keys that are kept as parts of a line
-abbrev pub keys_of : {S : Type 0} → HashSet (Bor (List ℕ)) S → List (List ℕ)
-keys_of set = map (λ k. k.now) set.keys
 
 abbrev pub given : {S : Type 0} → HashSet (Bor (List ℕ)) S → Levels → Given
 given keys levels = record { keys = keys_of keys; reading = reading levels }

@@ -1,31 +1,20 @@
 -- What one line of a trace says.
-use Rattle.std.specs.Prelude.{ℕ, ◌+◌, ◌-◌, Bool, true, false, not, ◌&&◌, ◌==◌, List, [], ◌∷◌, ◌++◌, length, filter, reverse, replicate, nat_le, codes, Option, None, Some, Result, Ok, Err, if◌then◌else◌}
+use Rattle.std.specs.Prelude.{ℕ, ◌+◌, ◌-◌, Bool, true, false, not, ◌&&◌, ◌==◌, List, [], ◌∷◌, ◌++◌, length, filter, replicate, nat_le, codes, Option, None, Some, Result, Ok, Err, if◌then◌else◌}
 use Rattle.std.specs.Option.{option_map, option_and_then}
 use Rattle.std.specs.Str.{bytes_eq}
 use Rattle.hex.specs.Hex.{decode_of}
 use Rattle.hex.specs.declared.error.FromHexError.{FromHexError}
-use Rattle.ld_base.specs.Lines.{pieces}
+use Rattle.texts.specs.Lines.{pieces, cut, without_return, is_some_bytes}
 use Rattle.ladder_tree.specs.declared.names.Names.{Names}
 use Rattle.ladder_meaning.specs.declared.reading.Reading.{Reading}
 use Rattle.ladder_trace.specs.declared.trace.Step.{Step}
-use Rattle.ladder_trace.specs.Token.{digits_to, cut, tokens_give, at_rest, begun}
-
--- without a carriage return (13) in front
-abbrev pub behind_return : List ℕ → List ℕ
-behind_return [] = []
-behind_return (b ∷ bs) = if b == 13 then bs else b ∷ bs
-
--- without one carriage return at the end
-abbrev pub without_return : List ℕ → List ℕ
-without_return line = reverse (behind_return (reverse line))
+use Rattle.ladder_trace.specs.Token.{tokens_give, at_rest, begun}
+use Rattle.texts.specs.Digits.{digits_to}
 
 -- an empty line, or one that begins with # (35)
 abbrev pub is_skipped : List ℕ → Bool
 is_skipped [] = true
 is_skipped (b ∷ bs) = b == 35
-
-abbrev pub is_some_bytes : List ℕ → Bool
-is_some_bytes bytes = not (length bytes == 0)
 
 -- what stands between spaces (32) and is not empty
 abbrev pub tokens : List ℕ → List (List ℕ)

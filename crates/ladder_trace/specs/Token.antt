@@ -1,26 +1,12 @@
 -- What one token of a step gives.
-use Rattle.std.specs.Prelude.{◌≡◌, ℕ, ◌+◌, ◌-◌, ◌*◌, ◌&&◌, ◌==◌, Bool, true, false, pos, List, [], ◌∷◌, ◌++◌, length, nat_le, replicate, slice_set, codes, Option, None, Some, if◌then◌else◌}
+use Rattle.std.specs.Prelude.{◌≡◌, ℕ, ◌+◌, Bool, true, false, pos, List, [], ◌∷◌, length, replicate, slice_set, codes, Option, None, Some, if◌then◌else◌}
 use Rattle.std.specs.Option.{option_map, option_and_then}
-use Rattle.std.specs.List.{list_all, list_any}
 use Rattle.std.specs.Str.{bytes_eq}
-use Rattle.ladder_tree.specs.Names.{is_digit}
+use Rattle.texts.specs.Digits.{digits_to}
+use Rattle.texts.specs.Lines.{cut}
+use Rattle.texts.specs.Keys.{with_key}
 use Rattle.ladder_tree.specs.declared.names.Names.{Names}
 use Rattle.ladder_meaning.specs.declared.reading.Reading.{Reading}
-
--- the number that decimal digits write behind those of n
-abbrev pub value_behind : ℕ → List ℕ → ℕ
-value_behind n [] = n
-value_behind n (c ∷ cs) = value_behind (10 * n + (c - 48)) cs
-
--- one digit or more that write a number of at most so much; leading zeros are digits
-abbrev pub digits_to : ℕ → List ℕ → Option ℕ
-digits_to most [] = None
-digits_to most (c ∷ cs) = if list_all is_digit (c ∷ cs) && nat_le (value_behind 0 (c ∷ cs)) most then Some (value_behind 0 (c ∷ cs)) else None
-
--- the bytes in front of the first separator, and those behind it
-abbrev pub cut : ℕ → List ℕ → Option (List ℕ × List ℕ)
-cut separator [] = None
-cut separator (b ∷ bs) = if b == separator then Some ([], bs) else option_map (λ p. (b ∷ p.0, p.1)) (cut separator bs)
 
 -- 0 and 1 alone: 00 is no level
 abbrev pub level : List ℕ → Option Bool
@@ -70,10 +56,6 @@ give n key value r =
 pub record Given : Type 0 where
   pub keys : List (List ℕ)
   pub reading : Reading
-
--- the keys with one that they do not have
-abbrev pub with_key : List ℕ → List (List ℕ) → Option (List (List ℕ))
-with_key key keys = if list_any (bytes_eq key) keys then None else Some (keys ++ key ∷ [])
 
 abbrev pub pair_gives : Names → Given → List ℕ → List ℕ → Option Given
 pair_gives n g key value = option_and_then (λ keys. option_map (λ r. record { keys = keys; reading = r }) (give n key value g.reading)) (with_key key g.keys)

@@ -1,6 +1,8 @@
 -- What a trace says: its steps and its EEPROM, or the first line at which it is refused.
-use Rattle.std.specs.Prelude.{◌≡◌, ℕ, ◌+◌, ◌≤◌, Bool, true, false, List, [], ◌∷◌, length, take, nat_lt, Option, None, Some, Result, Ok, Err, All, sum_by}
-use Rattle.ld_base.specs.Lines.{lines}
+use Rattle.std.specs.Prelude.{◌≡◌, ℕ, ◌+◌, ◌≤◌, Bool, true, false, List, [], ◌∷◌, length, Option, None, Some, Result, Ok, Err, All, sum_by}
+use Rattle.texts.specs.Lines.{lines}
+use Rattle.texts.specs.Limits.{judged, is_over}
+use Rattle.texts.specs.declared.limits.TheConstants.{FILE_BYTES}
 use Rattle.ladder_tree.specs.declared.names.Names.{Names}
 use Rattle.ladder_trace.specs.declared.trace.Trace.{Trace}
 use Rattle.ladder_trace.specs.declared.trace.TraceError.{TraceError}
@@ -20,14 +22,6 @@ read_from n passed d (l ∷ ls) = or_refused (passed + 1) (λ e. read_from n (pa
 abbrev pub read : Names → List (List ℕ) → Result Draft ℕ
 read n ls = read_from n 0 (start n) ls
 
--- how many bytes a trace may have
-abbrev pub most_bytes : ℕ
-most_bytes = 8388608
-
--- the bytes by which a trace is judged
-abbrev pub judged : List ℕ → List ℕ
-judged text = take (most_bytes + 1) text
-
 abbrev pub trace_of : Draft → Trace
 trace_of d = record { eeprom = d.eeprom; steps = d.steps }
 
@@ -38,7 +32,7 @@ verdict_by true count (Ok d) = Err count
 verdict_by false count (Ok d) = Ok (trace_of d)
 
 abbrev pub verdict : Names → List ℕ → Result Trace ℕ
-verdict n text = verdict_by (nat_lt most_bytes (length text)) (length (lines (judged text))) (read n (lines (judged text)))
+verdict n text = verdict_by (is_over FILE_BYTES text) (length (lines (judged FILE_BYTES text))) (read n (lines (judged FILE_BYTES text)))
 
 -- a fault names the line at which the trace is refused, and memory may be refused at any time
 abbrev pub IsCaused : Names → List ℕ → TraceError → Type 0

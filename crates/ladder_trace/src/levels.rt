@@ -1,14 +1,15 @@
 //! What inputs and devices have in a step.
 
 ghost use Rattle.std.specs.Prelude.{◌≡◌, ◌<◌, length, IfOk};
-ghost use Rattle.ladder_trace.specs.Token.{give_input, give_analog, give_byte, at_rest, begun};
-ghost use Rattle.ladder_trace.specs.Held.{Takes, reading};
+ghost use Rattle.ladder_trace.specs.Token.{level, give_input, give_analog, give_byte, at_rest, begun};
+ghost use Rattle.texts.specs.Keys.{Takes};
+ghost use Rattle.ladder_trace.specs.Held.{reading};
 
-use crate::number::{digits_to, level};
 use ladder_meaning::reading::Reading;
 use ladder_tree::names::Names;
 use ld_base::list::List;
 use std::alloc::{AllocError, Global};
+use texts::digits::digits_to;
 
 /// The greatest number of an analog input.
 const MOST_ANALOG: u32 = 1023;
@@ -106,5 +107,18 @@ impl Levels {
                 true
             }
         }
+    }
+}
+
+/// The level that a value says.
+fn level(value: &[u8]) -> Option<bool>
+    ensures { result ≡ level value.now }
+{
+    if value == b"0".as_slice() {
+        Some(false)
+    } else if value == b"1".as_slice() {
+        Some(true)
+    } else {
+        None
     }
 }

@@ -2,10 +2,7 @@
 #![tactic(auto)]
 
 mod levels;
-mod number;
 mod reader;
 pub mod shown;
-#[cfg(test)]
-mod tests;
 mod token;
 pub mod trace;

@@ -1,21 +1,22 @@
 //! What is read of a trace, line by line.
 
 ghost use Rattle.std.specs.Prelude.{◌≡◌, [], ◌∷◌, ◌++◌, map, filter, IfOk, OnOk};
-ghost use Rattle.std.specs.Option.{option_map};
 ghost use Rattle.ladder_trace.specs.Token.{IsReadingOf};
-ghost use Rattle.ladder_trace.specs.Line.{without_return, is_skipped, is_some_bytes, tokens, filled, eeprom_of, eeprom_alone, eeprom_says, count_of, timed, with_step, step_says, words_say, clean_says, line_says, start};
-ghost use Rattle.ladder_trace.specs.Held.{Takes, reading, draft};
+ghost use Rattle.ladder_trace.specs.Line.{is_skipped, tokens, filled, eeprom_of, eeprom_alone, eeprom_says, count_of, timed, with_step, step_says, words_say, line_says, start};
+ghost use Rattle.texts.specs.Keys.{Takes};
+ghost use Rattle.texts.specs.Lines.{is_some_bytes};
+ghost use Rattle.ladder_trace.specs.Held.{reading, draft};
 
 use crate::levels::Levels;
-use crate::number::{cut, digits_to};
 use crate::token::take_tokens;
 use crate::trace::{Step, Steps};
 use hex::FromHexError;
 use ladder_tree::element::Bytes;
 use ladder_tree::names::Names;
-use ld_base::lines::split_piece;
 use ld_base::list::List;
 use std::alloc::{AllocError, Global};
+use texts::digits::digits_to;
+use texts::lines::{split_piece, without_return};
 
 /// How many bytes an EEPROM has.
 const EEPROM_SIZE: usize = 512;
@@ -135,16 +136,6 @@ impl Reader {
     }
 }
 
-/// The line without one carriage return at its end.
-fn without_return(line: &[u8]) -> &[u8]
-    ensures { result.now ≡ without_return line.now }
-{
-    match line.split_last() {
-        Some((b'\r', front)) => front,
-        _ => line,
-    }
-}
-
 /// Whether the line is empty or begins with `#`.
 fn is_skipped(line: &[u8]) -> bool
     ensures { result ≡ is_skipped line.now }
@@ -219,7 +210,7 @@ fn eeprom_alone(alloc: Global, words: &[&[u8]]) -> Result<Option<Bytes>, AllocEr
 fn count_of(token: &[u8]) -> Option<u32>
     ensures { result ≡ count_of token.now }
 {
-    let (digits, behind) = cut(b':', token)?;
+    let (digits, behind) = split_piece(b':', token)?;
     if !behind.is_empty() {
         return None;
     }

@@ -10,9 +10,7 @@ use ladder_tree::element::{Bytes, Name};
 use ladder_tree::names::Names;
 use ld_base::list::List;
 use std::alloc::{AllocError, Global};
-
-/// Bytes of a text.
-pub type Text = List<u8>;
+use texts::Text;
 
 /// The line of a cycle, with its line feed: its number, which a run counts from 1, and what the view shows, by the names
 /// in order. The bytes of the EEPROM are pairs of hexadecimal digits in lower case.

@@ -1,18 +1,17 @@
 //! The tokens of a step.
 
 ghost use Rattle.std.specs.Prelude.{◌≡◌, ◌<◌, [], length, map, IfOk, IfSome};
-ghost use Rattle.ladder_trace.specs.Token.{give_at, give, is_one, place_in, with_key, token_gives, tokens_give, IsReadingOf};
-ghost use Rattle.ladder_trace.specs.Held.{Takes, Gives, reading, keys_of, given};
+ghost use Rattle.ladder_trace.specs.Token.{give_at, give, is_one, place_in, token_gives, tokens_give, IsReadingOf};
+ghost use Rattle.texts.specs.Keys.{Takes};
+ghost use Rattle.ladder_trace.specs.Held.{Gives, reading, given};
 
 use crate::levels::Levels;
-use crate::number::cut;
 use indexmap::IndexSet;
 use ladder_tree::element::Name;
 use ladder_tree::names::Names;
 use std::alloc::{AllocError, Global};
-
-/// The keys of a step, each once. They are parts of its line.
-type KeySet<'a> = IndexSet<&'a [u8]>;
+use texts::keys::{KeySet, add_key};
+use texts::lines::split_piece;
 
 /// The place of the first name that is the key.
 fn place_of(names: &[Name], key: &[u8]) -> Option<usize>
@@ -69,13 +68,6 @@ fn give(names: &Names, levels: &mut Levels, key: &[u8], value: &[u8]) -> bool
     }
 }
 
-/// Adds a key, and says whether it is new.
-fn add_key<'a>(keys: &mut KeySet<'a>, key: &'a [u8]) -> Result<bool, AllocError>
-    ensures { IfOk result (λ ok. Takes (with_key key.now (keys_of keys.old)) ok (keys_of keys.new)) }
-{
-    Ok(keys.insert(key)?)
-}
-
 /// Gives what a token says, and says whether it may stand behind those with the keys.
 fn take_token<'a>(
     names: &Names,
@@ -87,7 +79,7 @@ fn take_token<'a>(
     ensures given { IfOk result (λ ok. Takes (token_gives names.now (given keys.old levels.old) token.now) ok (given keys.new levels.new)) }
     ensures fits { IsReadingOf names.now (reading levels.new) }
 {
-    let Some((key, value)) = cut(b'=', token) else {
+    let Some((key, value)) = split_piece(b'=', token) else {
         return Ok(false);
     };
     if !add_key(keys, key)? {

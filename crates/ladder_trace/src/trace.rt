@@ -1,21 +1,19 @@
 //! Reading a trace.
 
-ghost use Rattle.std.specs.Prelude.{◌≡◌, ◌+◌, ◌≤◌, ◌<◌, ◌^◌, length, Ok, IfOk, IfErr};
-ghost use Rattle.ld_base.specs.Lines.{lines};
-ghost use Rattle.ladder_trace.specs.Trace.{verdict, judged, most_bytes, IsCaused, IsTraceOf};
+ghost use Rattle.std.specs.Prelude.{◌≡◌, ◌<◌, ◌^◌, length, Ok, IfOk, IfErr};
+ghost use Rattle.texts.specs.Lines.{lines};
+ghost use Rattle.ladder_trace.specs.Trace.{verdict, IsCaused, IsTraceOf};
 ghost use Rattle.ladder_trace.specs.Held.{IsOutcome};
 
 use crate::reader::Reader;
 use ladder_meaning::reading::Reading;
 use ladder_tree::element::Bytes;
 use ladder_tree::names::Names;
-use ld_base::lines::split_line;
 use ld_base::list::List;
 use std::alloc::{AllocError, Global};
+use texts::limits::{FILE_BYTES, judged};
+use texts::lines::split_line;
 use thiserror::Error;
-
-/// How many bytes a trace may have.
-const MOST_BYTES: usize = 8_388_608;
 
 /// A reading, and for how many cycles it holds: 1 to 100,000.
 #[derive(Debug, Drop)]
@@ -62,14 +60,14 @@ pub fn read_trace(alloc: Global, names: &Names, text: &[u8]) -> Result<Trace, Tr
     ensures error { IfErr result (λ e. IsCaused names.now text.now e) }
     ensures fits { IfOk result (IsTraceOf names.now) }
 {
-    let outcome = match read_lines(alloc, names, judged(text)) {
+    let outcome = match read_lines(alloc, names, judged(FILE_BYTES, text)) {
         Ok(outcome) => outcome,
         Err(e) => return Err(TraceError::Memory(e)),
     };
     match outcome {
         Outcome::Stopped { line } => Err(TraceError::Fault { line }),
         Outcome::All { reader, count } => {
-            if text.len() > MOST_BYTES {
+            if text.len() > FILE_BYTES {
                 return Err(TraceError::Fault { line: count });
             }
             Ok(Trace {
@@ -77,18 +75,6 @@ pub fn read_trace(alloc: Global, names: &Names, text: &[u8]) -> Result<Trace, Tr
                 steps: reader.steps,
             })
         }
-    }
-}
-
-/// The bytes by which a trace is judged: one more than it may have tells that it is too long.
-fn judged(text: &[u8]) -> &[u8]
-    ensures front { result.now ≡ judged text.now }
-    ensures short { length result.now ≤ most_bytes + 1 }
-{
-    if text.len() > MOST_BYTES {
-        &text[..MOST_BYTES + 1]
-    } else {
-        text
     }
 }
 

@@ -1,3 +1,5 @@
 pub mod FirstLemmas
 pub mod FoldLemmas
+pub mod FrontLemmas
 pub mod NameLemmas
+pub mod VisitLemmas

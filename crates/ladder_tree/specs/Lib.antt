@@ -4,3 +4,4 @@ pub mod Induct
 pub mod Leaves
 pub mod Names
 pub mod Size
+pub mod Visit

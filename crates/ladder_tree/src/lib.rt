@@ -4,5 +4,7 @@
 pub mod element;
 pub mod fault;
 pub mod leaves;
+pub mod limits;
 pub mod names;
 pub mod project;
+pub mod visit;

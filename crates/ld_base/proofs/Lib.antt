@@ -1,4 +1,3 @@
 pub mod GrowLemmas
 pub mod EntryLemmas
 pub mod WrapLemmas
-pub mod LineLemmas

@@ -1,9 +1,9 @@
 -- Counts of faults, which never fall.
 use Rattle.std.specs.Prelude.{◌≡◌, ℕ, ◌+◌, ◌-◌, ◌^◌, ◌≤◌, min, Result, IsErrOf}
-use Rattle.ld_base.specs.declared.device.FileFault.{FileFault}
-use Rattle.ld_base.specs.declared.device.FileFault.TheVariants as file
-use Rattle.ld_base.specs.declared.device.OpenFault.{OpenFault}
-use Rattle.ld_base.specs.declared.device.OpenFault.TheVariants as opening
+use Rattle.ld_base.specs.declared.files.FileFault.{FileFault}
+use Rattle.ld_base.specs.declared.files.FileFault.TheVariants as file
+use Rattle.ld_base.specs.declared.files.OpenFault.{OpenFault}
+use Rattle.ld_base.specs.declared.files.OpenFault.TheVariants as opening
 
 -- one more, but never over the greatest u64
 abbrev pub one_more : ℕ → ℕ

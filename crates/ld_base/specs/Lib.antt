@@ -1,10 +1,10 @@
+-- What a reader has to believe.
 pub mod Counts
 pub mod Bytes
-pub mod Widened
-pub mod Entries
+pub mod Wrap
 pub mod MemFiles
 pub mod MemOut
-pub mod Wrap
-pub mod Lines
-pub mod Refusal
+-- What the code of this crate keeps.
 pub mod Host
+pub mod Entries
+pub mod Widened

@@ -5,7 +5,7 @@
 
 ghost use Rattle.std.specs.Prelude.{◌≡◌, ◌≤◌, ◌<◌, length, IfOk, false, None, []};
 
-use crate::device::{FileFault, Files, OpenFault, Out};
+use crate::files::{FileFault, Files, OpenFault, Out};
 use std::io::{self, ErrorKind, Read, Write};
 use std::{fs, rt};
 
@@ -220,37 +220,4 @@ fn write_once<T: Write>(to: &mut T, piece: &[u8]) -> io::Result<usize>
         }
     }
     Err(io::Error::from(ErrorKind::Interrupted))
-}
-
-#[cfg(test)]
-mod tests {
-    use super::*;
-    use crate::whole::{read_file, write_file, write_out};
-    use std::test::Fail;
-
-    #[test]
-    fn writes_and_reads_a_file(rt: HostRuntime) -> Result<(), Fail> {
-        let name = "ld_base_host_test.tmp";
-        let mut files = HostFiles::new(&rt);
-        files.create(name)?;
-        write_file(&mut files, b"coil\n")?;
-        files.finish()?;
-        let bytes = read_file(rt.alloc(), &mut files, name, 100)?;
-        fs::remove_file(&rt, name)?;
-        assert_eq!(rt; bytes.as_slice(), b"coil\n".as_slice());
-        let absent = files.open(name);
-        assert!(rt; matches!(absent, Err(OpenFault::Absent)));
-        assert_eq!(rt; files.absences(), 1);
-        assert_eq!(rt; files.read_faults(), 0);
-        assert_eq!(rt; files.write_faults(), 0);
-        Ok(())
-    }
-
-    #[test]
-    fn writes_to_the_standard_output(rt: HostRuntime) -> Result<(), Fail> {
-        let mut out = HostOut::new(&rt);
-        write_out(&mut out, b"contact\n")?;
-        assert_eq!(rt; out.faults(), 0);
-        Ok(())
-    }
 }

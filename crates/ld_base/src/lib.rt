@@ -1,11 +1,10 @@
-//! The outside as a program sees it: files and an output, over the host and in memory, and the
-//! byte-wise helpers that every reader and writer of text needs.
+//! The outside as a program sees it: files and an output, over the host and in memory; and below it the one list type, and numbers that
+//! wrap at 16 bits.
 #![tactic(auto)]
 
-pub mod device;
 mod entries;
+pub mod files;
 pub mod host;
-pub mod lines;
 pub mod list;
 pub mod mem_files;
 pub mod mem_out;

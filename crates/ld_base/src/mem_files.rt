@@ -5,8 +5,8 @@ ghost use Rattle.ld_base.specs.Bytes.{SameHeld, HoldsThen, Grows};
 ghost use Rattle.ld_base.specs.Counts.{one_more, read_failed, absent, write_failed, OpenCounts, ReadCounts, WriteCounts};
 ghost use Rattle.ld_base.specs.Entries.{now_of};
 
-use crate::device::{FileFault, Files, OpenFault};
 use crate::entries::{Entry, bytes_of, grow, hold};
+use crate::files::{FileFault, Files, OpenFault};
 use std::alloc::{AllocError, Global};
 
 /// Files in memory. Each call of a method of `Files` that opens, reads, creates, writes or
@@ -266,55 +266,4 @@ fn copy_from(bytes: &[u8], at: usize, buf: &mut [u8]) -> usize
     let n = buf.len().min(bytes.len() - at);
     buf[..n].copy_from_slice(&bytes[at..at + n]);
     n
-}
-
-#[cfg(test)]
-mod tests {
-    use super::*;
-    use crate::whole::{read_file, write_file};
-    use std::test::Fail;
-
-    #[test]
-    fn holds_what_is_put_and_written(rt: HostRuntime) -> Result<(), Fail> {
-        let mut files = MemFiles::new(rt.alloc());
-        files.put("source", b"contact")?;
-        let all = read_file(rt.alloc(), &mut files, "source", 7)?;
-        assert_eq!(rt; all.as_slice(), b"contact".as_slice());
-        let front = read_file(rt.alloc(), &mut files, "source", 2)?;
-        assert_eq!(rt; front.as_slice(), b"con".as_slice());
-        files.create("dest")?;
-        write_file(&mut files, b"coil")?;
-        files.finish()?;
-        assert_eq!(rt; files.get("dest"), Some(b"coil".as_slice()));
-        assert!(rt; matches!(files.open("other"), Err(OpenFault::Absent)));
-        assert_eq!(rt; files.absences(), 1);
-        Ok(())
-    }
-
-    #[test]
-    fn fails_where_it_is_told_to(rt: HostRuntime) -> Result<(), Fail> {
-        for (call, reads, writes) in [
-            (1, 1, 0),
-            (2, 1, 0),
-            (3, 0, 1),
-            (4, 0, 1),
-            (5, 0, 1),
-            (6, 0, 0),
-        ] {
-            let mut files = MemFiles::new(rt.alloc());
-            files.put("source", b"contact")?;
-            files.fail_at(call)?;
-            let mut buf = [0u8; 4];
-            if files.open("source").is_ok() {
-                let _ = files.read(&mut buf);
-            }
-            if files.create("dest").is_ok() {
-                let _ = files.write(b"coil");
-                let _ = files.finish();
-            }
-            assert_eq!(rt; files.read_faults(), reads, "at {call}");
-            assert_eq!(rt; files.write_faults(), writes, "at {call}");
-        }
-        Ok(())
-    }
 }

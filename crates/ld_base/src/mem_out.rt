@@ -3,7 +3,7 @@
 ghost use Rattle.std.specs.Prelude.{◌≡◌, ◌++◌, ◌∷◌, [], ◌<◌, length, take, Err, IsErrOf, ◌↔◌, OnOk, OnErr, IfOk, if◌then◌else◌, true};
 ghost use Rattle.ld_base.specs.Counts.{one_more, OutCount};
 
-use crate::device::{FileFault, Out};
+use crate::files::{FileFault, Out};
 use std::alloc::{AllocError, Global};
 
 /// An output in memory. The calls of `write` are numbered from 1 on, and those whose numbers
@@ -92,24 +92,5 @@ impl Out for MemOut {
 
     fn faults(&self) -> u64 {
         self.faults
-    }
-}
-
-#[cfg(test)]
-mod tests {
-    use super::*;
-    use crate::whole::write_out;
-    use std::test::Fail;
-
-    #[test]
-    fn keeps_what_was_written_before_a_fault(rt: HostRuntime) -> Result<(), Fail> {
-        let mut out = MemOut::new(rt.alloc());
-        out.fail_at(2)?;
-        write_out(&mut out, b"relay ")?;
-        assert!(rt; matches!(write_out(&mut out, b"timer "), Err(FileFault::Failed)));
-        write_out(&mut out, b"coil")?;
-        assert_eq!(rt; out.bytes(), b"relay coil".as_slice());
-        assert_eq!(rt; out.faults(), 1);
-        Ok(())
     }
 }

@@ -1,10 +1,10 @@
 //! Whole pieces, and whole files.
 
-ghost use Rattle.std.specs.Prelude.{◌≡◌, ℕ, ◌+◌, ◌^◌, ◌<◌, true, List, ◌++◌, length, take, Some, None, OnOk, IfOk, IsErrOf};
+ghost use Rattle.std.specs.Prelude.{◌≡◌, ℕ, ◌+◌, ◌^◌, ◌<◌, ◌≤◌, true, List, ◌++◌, length, take, Some, None, OnOk, IfOk, IsErrOf};
 ghost use Rattle.ld_base.specs.Counts.{OpenCounts, ReadCounts, WriteCounts, OutCount};
 ghost use Rattle.ld_base.specs.Bytes.{SameHeld, Grows};
 
-use crate::device::{FileFault, Files, OpenFault, Out};
+use crate::files::{FileFault, Files, OpenFault, Out};
 use std::alloc::Global;
 
 /// How many bytes one read asks for.
@@ -42,20 +42,22 @@ pub fn write_file<F: Files>(files: &mut F, piece: &[u8]) -> Result<(), FileFault
     Ok(())
 }
 
-/// Reads to the end, or past the limit.
+/// Reads to the end, or to the first byte past the limit and no further.
 fn read_rest<F: Files>(alloc: Global, files: &mut F, limit: usize) -> Result<Vec<u8>, FileFault>
     requires open { F.is_open files.old ≡ true }
     requires small { limit < 2 ^ 62 }
     ensures open { F.is_open files.new ≡ true }
     ensures writing { F.is_writing files.new ≡ F.is_writing files.old }
     ensures counts { ReadCounts (F.counts files.old) (F.counts files.new) result }
-    ensures bytes { F.tells ≡ true → IfOk result (λ v. take (limit + 1) v.items ≡ take (limit + 1) (F.left files.old)) }
+    ensures short { IfOk result (λ v. length v.items ≤ limit + 1) }
+    ensures bytes { F.tells ≡ true → IfOk result (λ v. v.items ≡ take (limit + 1) (F.left files.old)) }
     ensures held { F.tells ≡ true → SameHeld (F.held files.old) (F.held files.new) }
 {
     let mut all = Vec::new(alloc);
     let mut buf = [0u8; BUFFER];
-    for turn in 0..limit + 1 {
-        let n = files.read(&mut buf)?;
+    while all.len() <= limit {
+        let room = BUFFER.min(limit + 1 - all.len());
+        let n = files.read(&mut buf[..room])?;
         if n == 0 {
             return Ok(all);
         }
@@ -81,7 +83,5 @@ pub fn read_file<F: Files>(
     ensures held { F.tells ≡ true → SameHeld (F.held files.old) (F.held files.new) }
 {
     files.open(name)?;
-    let mut all = read_rest(alloc, files, limit)?;
-    all.truncate(limit + 1);
-    Ok(all)
+    Ok(read_rest(alloc, files, limit)?)
 }

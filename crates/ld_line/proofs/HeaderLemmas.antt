@@ -1,16 +1,16 @@
--- Words in front of bytes, and targets in words.
+-- Words in front of bytes.
 use Rattle.std.proofs.Common.{◌≡◌, ◌==◌, ℕ, Bool, true, false, ◌&&◌, if◌then◌else◌, List, [], ◌∷◌, ◌+◌, Bor, length, take, drop, Option, Some, None, MatchOption, refl, sym, ap, ◌∙◌}
 use Rattle.std.specs.Option.{option_map}
 use Rattle.std.specs.Str.{bytes_eq}
-use Rattle.ld_line.specs.Header.{behind_word, target_of, or_else, first_target}
-use Rattle.chip_tables.specs.declared.target.Target.{Target}
+use Rattle.ld_line.specs.Header.{behind_word}
 
 pub behind_by : (word bytes : List ℕ) → behind_word word bytes ≡ (if bytes_eq (take (length word) bytes) word then Some (drop (length word) bytes) else None)
 behind_by [] bytes = refl
 behind_by (w ∷ ws) [] = refl
 behind_by (w ∷ ws) (b ∷ bs) = by (b == w) (behind_by ws bs)
   where
-    by : (x : Bool) → behind_word ws bs ≡ (if bytes_eq (take (length ws) bs) ws then Some (drop (length ws) bs) else None) → (if x then behind_word ws bs else None) ≡ (if x && bytes_eq (take (length ws) bs) ws then Some (drop (length ws) bs) else None)
+    by : (x : Bool) → behind_word ws bs ≡ (if bytes_eq (take (length ws) bs) ws then Some (drop (length ws) bs) else None)
+        → (if x then behind_word ws bs else None) ≡ (if x && bytes_eq (take (length ws) bs) ws then Some (drop (length ws) bs) else None)
     by true h = h
     by false h = refl
 
@@ -22,13 +22,3 @@ IsStripped word bytes result =
 pub stripped : (word bytes : List ℕ) (result : Option (Bor (List ℕ))) → IsStripped word bytes result → option_map (λ b. b.now) result ≡ behind_word word bytes
 stripped word bytes None h = sym (behind_by word bytes ∙ ap (λ b. if b then Some (drop (length word) bytes) else None) h)
 stripped word bytes (Some x) h = ap Some h.1 ∙ sym (behind_by word bytes ∙ ap (λ b. if b then Some (drop (length word) bytes) else None) h.0)
-
-pub target_later : (ws : List (List ℕ)) (w : List ℕ) (others : List (List ℕ)) → ws ≡ w ∷ others → None ≡ target_of w → first_target others ≡ first_target ws
-target_later ws w others is h = ap (λ t. or_else t (first_target others)) h ∙ ap first_target (sym is)
-
-or_none : (t : Option Target) → t ≡ or_else t None
-or_none None = refl
-or_none (Some t) = refl
-
-pub target_last : (ws : List (List ℕ)) (w : List ℕ) → ws ≡ w ∷ [] → target_of w ≡ first_target ws
-target_last ws w is = or_none (target_of w) ∙ ap first_target (sym is)

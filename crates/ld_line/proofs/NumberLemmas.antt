@@ -3,8 +3,9 @@ use Rattle.std.proofs.Common.{◌≡◌, ℕ, suc, ◌+◌, ◌-◌, ◌*◌, �
 use Rattle.std.proofs.lemmas.Bool.Decides.{nat_tests}
 use Rattle.std.specs.Option.{option_map}
 use Rattle.std.specs.List.{list_all}
-use Rattle.ladder_tree.specs.Names.{is_digit}
-use Rattle.ld_line.specs.Numbers.{value_behind, signed, IsSized}
+use Rattle.texts.specs.Digits.{is_digit, value_behind}
+use Rattle.ld_line.specs.Numbers.{signed}
+use Rattle.ld_line.specs.Steps.{IsSized}
 
 -- what digits write behind a number, up to the greatest
 abbrev pub rest_of : ℕ → List ℕ → Option ℕ
@@ -31,7 +32,8 @@ capped v ds = by (nat_le v (2 ^ 32 - 1)) refl
 front : (ds : List ℕ) (i c : ℕ) → i < length ds → c ≡ get_or ds i 0 → drop i ds ≡ c ∷ drop (i + 1) ds
 front ds i c lt is = rw add-one (drop-cons ds i 0 lt ∙ ap (λ x. x ∷ drop (suc i) ds) (sym is))
 
-pub digit_more : (v : ℕ) (ds : List ℕ) (i c : ℕ) → i < length ds → c ≡ get_or ds i 0 → is_digit c ≡ true → rest_of (min (2 ^ 32 - 1) (10 * v + (c - 48))) (drop (i + 1) ds) ≡ rest_of v (drop i ds)
+pub digit_more : (v : ℕ) (ds : List ℕ) (i c : ℕ) → i < length ds → c ≡ get_or ds i 0 → is_digit c ≡ true
+    → rest_of (min (2 ^ 32 - 1) (10 * v + (c - 48))) (drop (i + 1) ds) ≡ rest_of v (drop i ds)
 digit_more v ds i c lt is d =
     ap (λ n. if list_all is_digit (drop (i + 1) ds) then Some n else None) (capped (10 * v + (c - 48)) (drop (i + 1) ds))
     ∙ rw (front ds i c lt is, d) refl

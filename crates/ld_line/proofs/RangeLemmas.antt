@@ -1,5 +1,6 @@
 -- The ranges of what lines say.
 use Rattle.std.proofs.Common.{◌≡◌, ℕ, Bool, true, false, ℤ, List, [], ◌∷◌, length, refl}
+use Rattle.std.proofs.lemmas.Bool.{and_from, and_parts}
 use Rattle.std.proofs.Common.{◌≤◌, ◌&&◌, ◌==◌, nat_le, pos, neg_ℤ, negsuc, Option, None, Some, if◌then◌else◌, int_le, unsigned_abs, slice_index_or, arith}
 use Rattle.std.specs.List.{list_all}
 use Rattle.std.proofs.lemmas.Int.{ints}
@@ -63,14 +64,6 @@ name_said t = by (is_name t) refl
 at_most : (n most : ℕ) → n ≤ most → nat_le n most ≡ true
 at_most n most h = grind (arith, nat_tests)
 
-two : (a b : Bool) → a ≡ true → b ≡ true → (a && b) ≡ true
-two true b h g = g
-two false b h g = absurd cc
-
-both_true : (a b : Bool) → (a && b) ≡ true → (a ≡ true) × (b ≡ true)
-both_true true b h = (refl, h)
-both_true false b h = absurd cc
-
 integer_said : (t : List ℕ) → IfIs (integer t) IsInteger
 unfolding integer
 integer_said t = of (number t)
@@ -87,23 +80,24 @@ integers_said : (ts : List (List ℕ)) → IfIs (integers ts) AreIntegers
 integers_said [] = refl
 integers_said (t ∷ ts) =
     if_made (λ p. p.0 ∷ p.1) IsInteger AreIntegers AreIntegers (integer t) (integers ts) (integer_said t) (integers_said ts)
-    (λ p h. two (is_integer p.0) (list_all is_integer p.1) h.0 h.1)
+    (λ p h. and_from (is_integer p.0) (list_all is_integer p.1) h.0 h.1)
 
 below_delete : (c : ℕ) → nat_le c 0x7e ≡ true → is_integer (pos c) ≡ true
-below_delete c h = two (int_le (neg_ℤ (pos 32768)) (pos c)) (int_le (pos c) (pos 32767)) (grind (arith, ints, nat_tests)) (grind (arith, ints, nat_tests))
+below_delete c h = and_from (int_le (neg_ℤ (pos 32768)) (pos c)) (int_le (pos c) (pos 32767)) (grind (arith, ints, nat_tests)) (grind (arith, ints, nat_tests))
 
 character_said : (t : List ℕ) → is_character t ≡ true → is_integer (pos (slice_index_or t 1 0)) ≡ true
 character_said t h =
     let c = slice_index_or t 1 0 in
-    let quoted = both_true (length t == 3) ((slice_index_or t 0 0 == 39 && slice_index_or t 2 0 == 39) && (nat_le 0x21 c && nat_le c 0x7e)) h in
-    let shows = both_true (slice_index_or t 0 0 == 39 && slice_index_or t 2 0 == 39) (nat_le 0x21 c && nat_le c 0x7e) quoted.1 in
-    below_delete c (both_true (nat_le 0x21 c) (nat_le c 0x7e) shows.1).1
+    let quoted = and_parts (length t == 3) ((slice_index_or t 0 0 == 39 && slice_index_or t 2 0 == 39) && (nat_le 0x21 c && nat_le c 0x7e)) h in
+    let shows = and_parts (slice_index_or t 0 0 == 39 && slice_index_or t 2 0 == 39) (nat_le 0x21 c && nat_le c 0x7e) quoted.1 in
+    below_delete c (and_parts (nat_le 0x21 c) (nat_le c 0x7e) shows.1).1
 
 operand_said : (t : List ℕ) → IfIs (operand t) IsReadOperand
 unfolding operand
 operand_said t = by (is_name t) (is_character t) refl refl
   where
-    by : (a b : Bool) → is_name t ≡ a → is_character t ≡ b → IfIs (if a then Is (Var t) else (if b then Is (Num (pos (slice_index_or t 1 0))) else said_map Num (integer t))) IsReadOperand
+    by : (a b : Bool) → is_name t ≡ a → is_character t ≡ b
+        → IfIs (if a then Is (Var t) else (if b then Is (Num (pos (slice_index_or t 1 0))) else said_map Num (integer t))) IsReadOperand
     by true b e f = e
     by false true e f = character_said t f
     by false false e f = if_map Num IsReadOperand (integer t) (integer_said t)
@@ -112,12 +106,14 @@ natural_said : (low high : ℕ) (t : List ℕ) → IfIs (natural_in low high t) 
 unfolding natural_in
 natural_said low high t = of (number t)
   where
-    at_pos : (n : ℕ) (a b : Bool) → int_le (pos low) (pos n) ≡ a → int_le (pos n) (pos high) ≡ b → IfIs (said_map unsigned_abs (if a && b then Is (pos n) else Range)) (λ n. (low ≤ n) × (n ≤ high))
+    at_pos : (n : ℕ) (a b : Bool) → int_le (pos low) (pos n) ≡ a → int_le (pos n) (pos high) ≡ b
+        → IfIs (said_map unsigned_abs (if a && b then Is (pos n) else Range)) (λ n. (low ≤ n) × (n ≤ high))
     at_pos n true true e f = (grind (arith, ints, nat_tests), grind (arith, ints, nat_tests))
     at_pos n true false e f = tt
     at_pos n false b e f = tt
 
-    at_neg : (n : ℕ) (a b : Bool) → int_le (pos low) (negsuc n) ≡ a → IfIs (said_map unsigned_abs (if a && b then Is (negsuc n) else Range)) (λ n. (low ≤ n) × (n ≤ high))
+    at_neg : (n : ℕ) (a b : Bool) → int_le (pos low) (negsuc n) ≡ a
+        → IfIs (said_map unsigned_abs (if a && b then Is (negsuc n) else Range)) (λ n. (low ≤ n) × (n ≤ high))
     at_neg n true b e = absurd (grind (arith, ints))
     at_neg n false b e = tt
 
@@ -138,7 +134,8 @@ only_name_said (n ∷ t ∷ ts) = tt
 contacts_said : (ts : List (List ℕ)) → IfIs (contacts ts) IsRead
 contacts_said [] = tt
 contacts_said (n ∷ []) = tt
-contacts_said (n ∷ f ∷ []) = if_made (λ p. kind.Contacts p.0 p.1) IsNamed (λ x. Unit {0}) IsRead (name n) (flag f) (name_said n) (anything (flag f)) (λ p h. h.0)
+contacts_said (n ∷ f ∷ []) =
+    if_made (λ p. kind.Contacts p.0 p.1) IsNamed (λ x. Unit {0}) IsRead (name n) (flag f) (name_said n) (anything (flag f)) (λ p h. h.0)
 contacts_said (n ∷ f ∷ t ∷ ts) = tt
 
 coil_said : (ts : List (List ℕ)) → IfIs (coil ts) IsRead
@@ -146,7 +143,8 @@ coil_said [] = tt
 coil_said (n ∷ []) = tt
 coil_said (n ∷ a ∷ []) = tt
 coil_said (n ∷ a ∷ b ∷ []) = tt
-coil_said (n ∷ a ∷ b ∷ c ∷ []) = if_made (λ p. kind.Coil p.0 p.1) IsNamed (λ x. Unit {0}) IsRead (name n) (mode_from a b c) (name_said n) (anything (mode_from a b c)) (λ p h. h.0)
+coil_said (n ∷ a ∷ b ∷ c ∷ []) =
+    if_made (λ p. kind.Coil p.0 p.1) IsNamed (λ x. Unit {0}) IsRead (name n) (mode_from a b c) (name_said n) (anything (mode_from a b c)) (λ p h. h.0)
 coil_said (n ∷ a ∷ b ∷ c ∷ t ∷ ts) = tt
 
 timer_said : (how : TimerHow) (ts : List (List ℕ)) → IfIs (timer_of how ts) IsRead
@@ -154,7 +152,7 @@ timer_said how [] = tt
 timer_said how (n ∷ []) = tt
 timer_said how (n ∷ d ∷ []) =
     if_made (λ p. kind.Timer how p.0 p.1) IsNamed (λ x. (0 ≤ x) × (x ≤ most_delay)) IsRead (name n) (natural_in 0 most_delay d) (name_said n) (natural_said 0 most_delay d)
-    (λ p h. two (is_name p.0) (nat_le p.1 most_delay) h.0 (at_most p.1 most_delay h.1.1))
+    (λ p h. and_from (is_name p.0) (nat_le p.1 most_delay) h.0 (at_most p.1 most_delay h.1.1))
 timer_said how (n ∷ d ∷ t ∷ ts) = tt
 
 counter_said : (how : CounterHow) (ts : List (List ℕ)) → IfIs (counter_of how ts) IsRead
@@ -162,7 +160,7 @@ counter_said how [] = tt
 counter_said how (n ∷ []) = tt
 counter_said how (n ∷ m ∷ []) =
     if_made (λ p. kind.Counter how p.0 p.1) IsNamed IsInteger IsRead (name n) (integer m) (name_said n) (integer_said m)
-    (λ p h. two (is_name p.0) (is_integer p.1) h.0 h.1)
+    (λ p h. and_from (is_name p.0) (is_integer p.1) h.0 h.1)
 counter_said how (n ∷ m ∷ t ∷ ts) = tt
 
 move_said : (ts : List (List ℕ)) → IfIs (move ts) IsRead
@@ -170,7 +168,7 @@ move_said [] = tt
 move_said (n ∷ []) = tt
 move_said (n ∷ o ∷ []) =
     if_made (λ p. kind.Move p.0 p.1) IsNamed IsReadOperand IsRead (name n) (operand o) (name_said n) (operand_said o)
-    (λ p h. two (is_name p.0) (is_read_operand p.1) h.0 h.1)
+    (λ p h. and_from (is_name p.0) (is_read_operand p.1) h.0 h.1)
 move_said (n ∷ o ∷ t ∷ ts) = tt
 
 pair_said : (a b : List ℕ) → IfIs (operand_pair a b) (λ p. IsReadOperand p.0 × IsReadOperand p.1)
@@ -182,7 +180,7 @@ math_said how (n ∷ []) = tt
 math_said how (n ∷ a ∷ []) = tt
 math_said how (n ∷ a ∷ b ∷ []) =
     if_made (λ p. kind.Math how p.0 p.1.0 p.1.1) IsNamed (λ p. IsReadOperand p.0 × IsReadOperand p.1) IsRead (name n) (operand_pair a b) (name_said n) (pair_said a b)
-    (λ p h. two (is_name p.0) (is_read_operand p.1.0 && is_read_operand p.1.1) h.0 (two (is_read_operand p.1.0) (is_read_operand p.1.1) h.1.0 h.1.1))
+    (λ p h. and_from (is_name p.0) (is_read_operand p.1.0 && is_read_operand p.1.1) h.0 (and_from (is_read_operand p.1.0) (is_read_operand p.1.1) h.1.0 h.1.1))
 math_said how (n ∷ a ∷ b ∷ t ∷ ts) = tt
 
 compare_said : (how : CompareHow) (ts : List (List ℕ)) → IfIs (compare how ts) IsRead
@@ -190,7 +188,7 @@ compare_said how [] = tt
 compare_said how (a ∷ []) = tt
 compare_said how (a ∷ b ∷ []) =
     if_made (λ p. kind.Compare how p.0 p.1) IsReadOperand IsReadOperand IsRead (operand a) (operand b) (operand_said a) (operand_said b)
-    (λ p h. two (is_read_operand p.0) (is_read_operand p.1) h.0 h.1)
+    (λ p h. and_from (is_read_operand p.0) (is_read_operand p.1) h.0 h.1)
 compare_said how (a ∷ b ∷ t ∷ ts) = tt
 
 shift_said : (ts : List (List ℕ)) → IfIs (shift ts) IsRead
@@ -198,7 +196,7 @@ shift_said [] = tt
 shift_said (n ∷ []) = tt
 shift_said (n ∷ p ∷ []) =
     if_made (λ p. kind.Shift p.0 p.1) IsNamed (λ x. (1 ≤ x) × (x ≤ most_items)) IsRead (name n) (natural_in 1 most_items p) (name_said n) (natural_said 1 most_items p)
-    (λ p h. two (is_name p.0) (nat_le 1 p.1 && nat_le p.1 most_items) h.0 (two (nat_le 1 p.1) (nat_le p.1 most_items) (at_most 1 p.1 h.1.0) (at_most p.1 most_items h.1.1)))
+    (λ p h. and_from (is_name p.0) (nat_le 1 p.1 && nat_le p.1 most_items) h.0 (and_from (nat_le 1 p.1) (nat_le p.1 most_items) (at_most 1 p.1 h.1.0) (at_most p.1 most_items h.1.1)))
 shift_said (n ∷ p ∷ t ∷ ts) = tt
 
 pwm_said : (ts : List (List ℕ)) → IfIs (pwm ts) IsRead
@@ -206,18 +204,19 @@ pwm_said [] = tt
 pwm_said (n ∷ []) = tt
 pwm_said (n ∷ z ∷ []) =
     if_made (λ p. kind.SetPwm p.0 p.1) IsNamed (λ x. (0 ≤ x) × (x ≤ most_setting)) IsRead (name n) (natural_in 0 most_setting z) (name_said n) (natural_said 0 most_setting z)
-    (λ p h. two (is_name p.0) (nat_le p.1 most_setting) h.0 (at_most p.1 most_setting h.1.1))
+    (λ p h. and_from (is_name p.0) (nat_le p.1 most_setting) h.0 (at_most p.1 most_setting h.1.1))
 pwm_said (n ∷ z ∷ t ∷ ts) = tt
 
-counted_said : (dest : List ℕ) (index : Operand) (count : ℕ) (as_text : Bool) (values : List ℤ) → IsNamed dest → IsReadOperand index → count ≤ most_items → AreIntegers values → IfIs (counted dest index count as_text values) IsRead
+counted_said : (dest : List ℕ) (index : Operand) (count : ℕ) (as_text : Bool) (values : List ℤ) → IsNamed dest → IsReadOperand index → count ≤ most_items
+    → AreIntegers values → IfIs (counted dest index count as_text values) IsRead
 counted_said dest index count as_text values n o h v = by (length values == count) refl
   where
     by : (b : Bool) → (length values == count) ≡ b → IfIs (if b then Is (kind.Table dest index as_text values) else Bad) IsRead
     by true e =
         let same : length values ≡ count = grind (arith, nat_tests) in
         let few : length values ≤ most_items = omega arith in
-        two (is_name dest) ((is_read_operand index && list_all is_integer values) && nat_le (length values) most_items) n
-        (two (is_read_operand index && list_all is_integer values) (nat_le (length values) most_items) (two (is_read_operand index) (list_all is_integer values) o v) (at_most (length values) most_items few))
+        and_from (is_name dest) ((is_read_operand index && list_all is_integer values) && nat_le (length values) most_items) n
+        (and_from (is_read_operand index && list_all is_integer values) (nat_le (length values) most_items) (and_from (is_read_operand index) (list_all is_integer values) o v) (at_most (length values) most_items few))
     by false e = tt
 
 abbrev HeadFits : List ℕ × Operand → Type 0
@@ -294,7 +293,7 @@ IsReadPin p = is_read_pin p ≡ true
 pin_line_said : (n pin : List ℕ) → IfIs (pins.pin_line n pin) IsReadPin
 pin_line_said n pin =
     if_made (λ p. pins_line.Pin (record { name = p.0; pin = p.1 })) IsNamed (λ x. (0 ≤ x) × (x ≤ most_pin)) IsReadPin (name n) (natural_in 0 most_pin pin) (name_said n) (natural_said 0 most_pin pin)
-    (λ p h. two (is_name p.0) (nat_le p.1 most_pin) h.0 (at_most p.1 most_pin h.1.1))
+    (λ p h. and_from (is_name p.0) (nat_le p.1 most_pin) h.0 (at_most p.1 most_pin h.1.1))
 
 pins_said : (ts : List (List ℕ)) → IfIs (pins.pin_of_line ts) IsReadPin
 pins_said [] = tt
@@ -309,7 +308,8 @@ pins_in_range ts p e = said_so IsReadPin (pins.pin_of_line ts) p e (pins_said ts
 abbrev IsReadSetting : HeaderLine → Type 0
 IsReadSetting h = is_read_setting h ≡ true
 
-keyed_said : (line : ℕ → HeaderLine) (number : Option (List ℕ)) (other : Said HeaderLine) → ((n : ℕ) → n ≤ most_setting → IsReadSetting (line n)) → IfIs other IsReadSetting → IfIs (keyed line number other) IsReadSetting
+keyed_said : (line : ℕ → HeaderLine) (number : Option (List ℕ)) (other : Said HeaderLine) → ((n : ℕ) → n ≤ most_setting → IsReadSetting (line n))
+    → IfIs other IsReadSetting → IfIs (keyed line number other) IsReadSetting
 keyed_said line None other fits h = h
 keyed_said line (Some t) other fits h =
     if_map line IsReadSetting (natural_in 0 most_setting t)

@@ -39,7 +39,8 @@ said_so P Range x e h = absurd cc
 said_so P (Is y) x e h = let same : y ≡ x = cc in subst P same h
 
 -- two parts, each with its fact, and what is made of them
-pub if_made : {A B C : Type 0} (f : A × B → C) (P : A → Type 0) (Q : B → Type 0) (R : C → Type 0) (a : Said A) (b : Said B) → IfIs a P → IfIs b Q → ((p : A × B) → P p.0 × Q p.1 → R (f p)) → IfIs (said_map f (both a b)) R
+pub if_made : {A B C : Type 0} (f : A × B → C) (P : A → Type 0) (Q : B → Type 0) (R : C → Type 0) (a : Said A) (b : Said B) → IfIs a P → IfIs b Q
+    → ((p : A × B) → P p.0 × Q p.1 → R (f p)) → IfIs (said_map f (both a b)) R
 if_made f P Q R a b h g made = if_map f R (both a b) (if_weak (λ p. P p.0 × Q p.1) (λ p. R (f p)) (both a b) made (if_both P Q a b h g))
 
 pub if_test : {A : Type 0} (Q : A → Type 0) (b : Bool) (s t : Said A) → IfIs s Q → IfIs t Q → IfIs (if b then s else t) Q

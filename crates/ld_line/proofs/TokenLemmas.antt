@@ -6,8 +6,9 @@ use Rattle.std.specs.Prelude.{filter}
 use Rattle.std.proofs.lemmas.Grind.{common_steps}
 use Rattle.std.proofs.lemmas.Bool.Decides.{nat_tests}
 use Rattle.std.specs.List.{position_or_len}
-use Rattle.ld_base.specs.Lines.{onto}
-use Rattle.ld_line.specs.Tokens.{is_blank, behind, between_blanks, is_some_bytes, runs, IsFirstRun}
+use Rattle.texts.specs.Lines.{onto}
+use Rattle.ld_line.specs.Tokens.{is_blank, behind, between_blanks, is_some_bytes, runs}
+use Rattle.ld_line.specs.Steps.{IsFirstRun}
 
 runs-blank : (b : ℕ) (bs : List ℕ) → is_blank b ≡ true → runs (b ∷ bs) ≡ runs bs
 runs-blank b bs e = ap (λ x. filter is_some_bytes (if x then [] ∷ between_blanks bs else onto b (between_blanks bs))) e
@@ -32,7 +33,8 @@ split : (xs : List ℕ) → between_blanks xs ≡ take (position_or_len is_blank
 split [] = refl
 split (x ∷ xs) = by (is_blank x) (position_or_len is_blank xs) (split xs)
   where
-    by : (b : Bool) (w : ℕ) → between_blanks xs ≡ take w xs ∷ later (drop w xs) → (if b then [] ∷ between_blanks xs else onto x (between_blanks xs)) ≡ take (cond (not b) (1 + w) 0) (x ∷ xs) ∷ later (drop (cond (not b) (1 + w) 0) (x ∷ xs))
+    by : (b : Bool) (w : ℕ) → between_blanks xs ≡ take w xs ∷ later (drop w xs)
+        → (if b then [] ∷ between_blanks xs else onto x (between_blanks xs)) ≡ take (cond (not b) (1 + w) 0) (x ∷ xs) ∷ later (drop (cond (not b) (1 + w) 0) (x ∷ xs))
     by true w h = refl
     by false w h = rw (one_more w) (ap (onto x) h)
 
@@ -40,7 +42,8 @@ at_blank : (xs : List ℕ) → position_or_len is_blank (drop (position_or_len i
 at_blank [] = refl
 at_blank (x ∷ xs) = by (is_blank x) refl (position_or_len is_blank xs) (at_blank xs)
   where
-    by : (b : Bool) → is_blank x ≡ b → (w : ℕ) → position_or_len is_blank (drop w xs) ≡ 0 → position_or_len is_blank (drop (cond (not b) (1 + w) 0) (x ∷ xs)) ≡ 0
+    by : (b : Bool) → is_blank x ≡ b → (w : ℕ) → position_or_len is_blank (drop w xs) ≡ 0
+        → position_or_len is_blank (drop (cond (not b) (1 + w) 0) (x ∷ xs)) ≡ 0
     by true e w h = ap (λ y. cond (not y) (1 + position_or_len is_blank xs) 0) e
     by false e w h = rw (one_more w) h
 
@@ -56,22 +59,23 @@ begins : (bs : List ℕ) → 0 < length (behind is_blank bs) → 0 < position_or
 begins [] h = absurd (omega arith)
 begins (b ∷ bs) h = by (is_blank b) refl (begins bs) h
   where
-    by : (x : Bool) → is_blank b ≡ x → (0 < length (behind is_blank bs) → 0 < position_or_len is_blank (behind is_blank bs)) → 0 < length (if x then behind is_blank bs else b ∷ bs) → 0 < position_or_len is_blank (if x then behind is_blank bs else b ∷ bs)
+    by : (x : Bool) → is_blank b ≡ x → (0 < length (behind is_blank bs) → 0 < position_or_len is_blank (behind is_blank bs))
+        → 0 < length (if x then behind is_blank bs else b ∷ bs) → 0 < position_or_len is_blank (if x then behind is_blank bs else b ∷ bs)
     by true e rest h = rest h
     by false e rest h = rw e (omega arith)
 
-length-behind : (bs : List ℕ) → length (behind is_blank bs) ≤ length bs
-length-behind [] = omega arith
-length-behind (b ∷ bs) = by (is_blank b) (length-behind bs)
+pub length-behind : (test : ℕ → Bool) (bs : List ℕ) → length (behind test bs) ≤ length bs
+length-behind test [] = omega arith
+length-behind test (b ∷ bs) = by (test b) (length-behind test bs)
   where
-    by : (x : Bool) → length (behind is_blank bs) ≤ length bs → length (if x then behind is_blank bs else b ∷ bs) ≤ suc (length bs)
+    by : (x : Bool) → length (behind test bs) ≤ length bs → length (if x then behind test bs else b ∷ bs) ≤ suc (length bs)
     by true h = omega (arith, h)
     by false h = omega arith
 
 width_of : (rest : List ℕ) → length (take (position_or_len is_blank rest) rest) ≡ position_or_len is_blank rest
 width_of rest = length-prefix_len (λ x. not (is_blank x)) rest
 
-kept : (run : List ℕ) (others : List (List ℕ)) → 0 < length run → filter is_some_bytes (run ∷ others) ≡ run ∷ filter is_some_bytes others
+pub kept : (run : List ℕ) (others : List (List ℕ)) → 0 < length run → filter is_some_bytes (run ∷ others) ≡ run ∷ filter is_some_bytes others
 kept [] others h = absurd (omega arith)
 kept (x ∷ xs) others h = rw some refl
   where
@@ -87,7 +91,8 @@ no_run bytes h = sym (runs-behind bytes) ∙ by (behind is_blank bytes) h
     by (x ∷ xs) h = absurd (omega arith)
 
 -- the first run of what stands behind the blanks
-run_of : (bytes rest : List ℕ) (w : ℕ) → rest ≡ behind is_blank bytes → 0 < w → w ≡ position_or_len is_blank rest → runs bytes ≡ take w rest ∷ runs (drop w rest)
+run_of : (bytes rest : List ℕ) (w : ℕ) → rest ≡ behind is_blank bytes → 0 < w → w ≡ position_or_len is_blank rest
+    → runs bytes ≡ take w rest ∷ runs (drop w rest)
 run_of bytes rest w is some width =
     let size : length (take w rest) ≡ w = rw width (width_of rest) in
     sym (runs-behind bytes) ∙ ap runs (sym is)
@@ -98,10 +103,11 @@ run_of bytes rest w is some width =
 all_behind : (rest : List ℕ) (w : ℕ) → take (length rest - w) (drop w rest) ≡ drop w rest
 all_behind rest w = grind (arith, common_steps)
 
-pub first_run_of : (bytes rest : List ℕ) (w : ℕ) → rest ≡ behind is_blank bytes → 0 < length rest → w ≡ position_or_len is_blank rest → IsFirstRun bytes (take w rest) (take (length rest - w) (drop w rest))
+pub first_run_of : (bytes rest : List ℕ) (w : ℕ) → rest ≡ behind is_blank bytes → 0 < length rest → w ≡ position_or_len is_blank rest
+    → IsFirstRun bytes (take w rest) (take (length rest - w) (drop w rest))
 first_run_of bytes rest w is some width =
     let lengths : length rest ≡ length (behind is_blank bytes) = ap length is in
-    let short = length-behind bytes in
+    let short = length-behind is_blank bytes in
     let wide : 0 < position_or_len is_blank rest = rw is (begins bytes (omega arith)) in
     let dropped = length-drop w rest in
     rw (all_behind rest w) (record {

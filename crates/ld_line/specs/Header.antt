@@ -1,10 +1,9 @@
 -- What the lines above PROGRAM say.
 use Rattle.std.specs.Prelude.{ℕ, ◌&&◌, ◌==◌, List, [], ◌∷◌, Option, None, Some, codes, if◌then◌else◌}
 use Rattle.std.specs.Str.{bytes_eq}
-use Rattle.chip_tables.specs.declared.target.Target.{Target}
-use Rattle.chip_tables.specs.declared.target.Target.TheVariants.{F628, F877, Mega16, Interp, AnsiC}
-use Rattle.ld_base.specs.Lines.{pieces}
+use Rattle.texts.specs.Lines.{pieces}
 use Rattle.ld_line.specs.Said.{said_map}
+use Rattle.ld_line.specs.Targets.{first_target}
 use Rattle.ld_line.specs.Tokens.{trimmed, tokens}
 use Rattle.ld_line.specs.Numbers.{natural_in, most_setting}
 use Rattle.ld_line.specs.declared.said.Said.{Said}
@@ -17,23 +16,6 @@ abbrev pub behind_word : List ℕ → List ℕ → Option (List ℕ)
 behind_word [] bytes = Some bytes
 behind_word (w ∷ ws) [] = None
 behind_word (w ∷ ws) (b ∷ bs) = if b == w then behind_word ws bs else None
-
-abbrev pub target_of : List ℕ → Option Target
-target_of word =
-    if bytes_eq word (codes "PIC16F628") then Some F628
-    else (if bytes_eq word (codes "PIC16F877") then Some F877
-    else (if bytes_eq word (codes "ATmega16") then Some Mega16
-    else (if bytes_eq word (codes "Interpretable") then Some Interp
-    else (if bytes_eq word (codes "ANSI") then Some AnsiC else None))))
-
-abbrev pub or_else : Option Target → Option Target → Option Target
-or_else (Some t) later = Some t
-or_else None later = later
-
--- the target of the first word that names one
-abbrev pub first_target : List (List ℕ) → Option Target
-first_target [] = None
-first_target (w ∷ ws) = or_else (target_of w) (first_target ws)
 
 -- The words of a MICRO line are one space (32) apart, and a tab is part of a word.
 abbrev pub micro : List ℕ → HeaderLine

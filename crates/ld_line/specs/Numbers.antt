@@ -1,21 +1,11 @@
 -- Numbers: digits, with - in front or not.
-use Rattle.std.specs.Prelude.{◌≡◌, min, ℕ, ◌+◌, ◌-◌, ◌*◌, ◌^◌, Bool, true, false, ◌&&◌, ◌==◌, ℤ, pos, neg_ℤ, unsigned_abs, int_le, List, [], ◌∷◌, Option, None, Some, if◌then◌else◌}
+use Rattle.std.specs.Prelude.{ℕ, Bool, true, false, ◌&&◌, ◌==◌, ℤ, pos, neg_ℤ, unsigned_abs, int_le, List, [], ◌∷◌, Option, None, Some, if◌then◌else◌}
 use Rattle.std.specs.Option.{option_map}
-use Rattle.std.specs.List.{list_all}
-use Rattle.ladder_tree.specs.Names.{is_digit}
+use Rattle.texts.specs.Digits.{digits}
 use Rattle.ld_line.specs.Said.{said_map}
+use Rattle.ld_line.specs.declared.number.TheConstants.{MOST_SETTING, MOST_DELAY, MOST_PIN, MOST_ITEMS}
 use Rattle.ld_line.specs.declared.said.Said.{Said}
 use Rattle.ld_line.specs.declared.said.Said.TheVariants.{Bad, Range, Is}
-
--- the number that digits write behind those of n
-abbrev pub value_behind : ℕ → List ℕ → ℕ
-value_behind n [] = n
-value_behind n (c ∷ cs) = value_behind (10 * n + (c - 48)) cs
-
--- one digit or more, and what they write; leading zeros are digits
-abbrev pub digits : List ℕ → Option ℕ
-digits [] = None
-digits (c ∷ cs) = if list_all is_digit (c ∷ cs) then Some (value_behind 0 (c ∷ cs)) else None
 
 abbrev pub signed : Bool → Option ℕ → Option ℤ
 signed is_negative n = option_map (λ k. if is_negative then neg_ℤ (pos k) else pos k) n
@@ -40,23 +30,17 @@ natural_in low high token = said_map unsigned_abs (number_in (pos low) (pos high
 unfoldable pub integer : List ℕ → Said ℤ
 integer token = number_in (neg_ℤ (pos 32768)) (pos 32767) token
 
--- the times, rates and frequencies of a project: 0 to 999,999,999
+-- the times, rates and frequencies of a project
 abbrev pub most_setting : ℕ
-most_setting = 999999999
+most_setting = MOST_SETTING
 
 -- microseconds of a timer
 abbrev pub most_delay : ℕ
-most_delay = 2 ^ 31 - 1
+most_delay = MOST_DELAY
 
 abbrev pub most_pin : ℕ
-most_pin = 255
+most_pin = MOST_PIN
 
 -- the values of a table, and the places of a shift register
 abbrev pub most_items : ℕ
-most_items = 60
-
--- a number's sign and its size, which stays at the greatest number of 32 bits where it is greater
-pub record IsSized (is_negative : Bool) (size : ℕ) (n : Option ℤ) : Type 0 where
-  pub exact : ℕ
-  pub is : n ≡ Some (if is_negative then neg_ℤ (pos exact) else pos exact)
-  pub capped : size ≡ min (2 ^ 32 - 1) exact
+most_items = MOST_ITEMS

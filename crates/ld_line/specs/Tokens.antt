@@ -1,7 +1,7 @@
 -- A line in tokens: what stands between its blanks.
-use Rattle.std.specs.Prelude.{◌≡◌, ℕ, ◌<◌, Bool, not, ◌==◌, ◌||◌, List, [], ◌∷◌, reverse, drop, length, filter, codes, if◌then◌else◌}
+use Rattle.std.specs.Prelude.{ℕ, Bool, not, ◌==◌, ◌||◌, List, [], ◌∷◌, reverse, drop, length, filter, codes, if◌then◌else◌}
 use Rattle.std.specs.Str.{bytes_eq}
-use Rattle.ld_base.specs.Lines.{onto}
+use Rattle.texts.specs.Lines.{onto}
 
 -- a space (32) or a tab (9)
 abbrev pub is_blank : ℕ → Bool
@@ -50,8 +50,3 @@ comment_text line = drop 8 (behind is_blank (without_returns line))
 -- the line that a project begins with
 abbrev pub is_magic : List ℕ → Bool
 is_magic line = bytes_eq (trimmed line) (codes "LDmicro0.1")
-
--- the first run of bytes, and what lies behind it
-pub record IsFirstRun (bytes run rest : List ℕ) : Type 0 where
-  pub runs : runs bytes ≡ run ∷ runs rest
-  pub shorter : length rest < length bytes

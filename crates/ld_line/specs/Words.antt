@@ -1,72 +1,93 @@
--- The words that elements begin with, and which of them are built for each target.
-use Rattle.std.specs.Prelude.{ℕ, Bool, true, false, List, Option, None, Some, codes, if◌then◌else◌}
-use Rattle.std.specs.Option.{option_or}
+-- The words that elements begin with: how each is spelled, and for which targets it is built.
+use Rattle.std.specs.Prelude.{ℕ, Bool, true, false, List, Option, codes}
+use Rattle.std.specs.List.{find}
 use Rattle.std.specs.Str.{bytes_eq}
 use Rattle.chip_tables.specs.declared.target.Target.{Target}
 use Rattle.chip_tables.specs.declared.target.Target.TheVariants.{F628, F877, Mega16, Interp, AnsiC}
 use Rattle.ld_line.specs.declared.word.Word.{Word}
 use Rattle.ld_line.specs.declared.word.Word.TheVariants.{Contacts, Coil, Osr, Osf, Short, Open, Comment, MasterRelay, Placeholder, Ton, Tof, Rto, Ctu, Ctd, Ctc, Res, Move, Add, Sub, Mul, Div, Equ, Neq, Grt, Geq, Les, Leq, ShiftRegister, LookUpTable, ReadAdc, SetPwm, UartRecv, UartSend, Persist, FormattedString, PiecewiseLinear}
+use Rattle.ld_line.specs.declared.word.TheConstants.{WORDS}
 
-abbrev pub bit_word : List ℕ → Option Word
-bit_word token =
-    if bytes_eq token (codes "CONTACTS") then Some Contacts
-    else (if bytes_eq token (codes "COIL") then Some Coil
-    else (if bytes_eq token (codes "OSR") then Some Osr
-    else (if bytes_eq token (codes "OSF") then Some Osf
-    else (if bytes_eq token (codes "SHORT") then Some Short
-    else (if bytes_eq token (codes "OPEN") then Some Open
-    else (if bytes_eq token (codes "COMMENT") then Some Comment
-    else (if bytes_eq token (codes "MASTER_RELAY") then Some MasterRelay
-    else (if bytes_eq token (codes "PLACEHOLDER") then Some Placeholder else None))))))))
+abbrev pub spelling : Word → List ℕ
+spelling Contacts = codes "CONTACTS"
+spelling Coil = codes "COIL"
+spelling Osr = codes "OSR"
+spelling Osf = codes "OSF"
+spelling Short = codes "SHORT"
+spelling Open = codes "OPEN"
+spelling Comment = codes "COMMENT"
+spelling MasterRelay = codes "MASTER_RELAY"
+spelling Placeholder = codes "PLACEHOLDER"
+spelling Ton = codes "TON"
+spelling Tof = codes "TOF"
+spelling Rto = codes "RTO"
+spelling Ctu = codes "CTU"
+spelling Ctd = codes "CTD"
+spelling Ctc = codes "CTC"
+spelling Res = codes "RES"
+spelling Move = codes "MOVE"
+spelling Add = codes "ADD"
+spelling Sub = codes "SUB"
+spelling Mul = codes "MUL"
+spelling Div = codes "DIV"
+spelling Equ = codes "EQU"
+spelling Neq = codes "NEQ"
+spelling Grt = codes "GRT"
+spelling Geq = codes "GEQ"
+spelling Les = codes "LES"
+spelling Leq = codes "LEQ"
+spelling ShiftRegister = codes "SHIFT_REGISTER"
+spelling LookUpTable = codes "LOOK_UP_TABLE"
+spelling ReadAdc = codes "READ_ADC"
+spelling SetPwm = codes "SET_PWM"
+spelling UartRecv = codes "UART_RECV"
+spelling UartSend = codes "UART_SEND"
+spelling Persist = codes "PERSIST"
+spelling FormattedString = codes "FORMATTED_STRING"
+spelling PiecewiseLinear = codes "PIECEWISE_LINEAR"
 
-abbrev pub time_word : List ℕ → Option Word
-time_word token =
-    if bytes_eq token (codes "TON") then Some Ton
-    else (if bytes_eq token (codes "TOF") then Some Tof
-    else (if bytes_eq token (codes "RTO") then Some Rto
-    else (if bytes_eq token (codes "CTU") then Some Ctu
-    else (if bytes_eq token (codes "CTD") then Some Ctd
-    else (if bytes_eq token (codes "CTC") then Some Ctc
-    else (if bytes_eq token (codes "RES") then Some Res else None))))))
-
-abbrev pub math_word : List ℕ → Option Word
-math_word token =
-    if bytes_eq token (codes "MOVE") then Some Move
-    else (if bytes_eq token (codes "ADD") then Some Add
-    else (if bytes_eq token (codes "SUB") then Some Sub
-    else (if bytes_eq token (codes "MUL") then Some Mul
-    else (if bytes_eq token (codes "DIV") then Some Div else None))))
-
-abbrev pub compare_word : List ℕ → Option Word
-compare_word token =
-    if bytes_eq token (codes "EQU") then Some Equ
-    else (if bytes_eq token (codes "NEQ") then Some Neq
-    else (if bytes_eq token (codes "GRT") then Some Grt
-    else (if bytes_eq token (codes "GEQ") then Some Geq
-    else (if bytes_eq token (codes "LES") then Some Les
-    else (if bytes_eq token (codes "LEQ") then Some Leq else None)))))
-
-abbrev pub device_word : List ℕ → Option Word
-device_word token =
-    if bytes_eq token (codes "SHIFT_REGISTER") then Some ShiftRegister
-    else (if bytes_eq token (codes "LOOK_UP_TABLE") then Some LookUpTable
-    else (if bytes_eq token (codes "READ_ADC") then Some ReadAdc
-    else (if bytes_eq token (codes "SET_PWM") then Some SetPwm
-    else (if bytes_eq token (codes "UART_RECV") then Some UartRecv
-    else (if bytes_eq token (codes "UART_SEND") then Some UartSend
-    else (if bytes_eq token (codes "PERSIST") then Some Persist
-    else (if bytes_eq token (codes "FORMATTED_STRING") then Some FormattedString
-    else (if bytes_eq token (codes "PIECEWISE_LINEAR") then Some PiecewiseLinear else None))))))))
-
--- the word that a token is
+-- the word that a token is, of all words
 abbrev pub word_of : List ℕ → Option Word
-word_of token = option_or (bit_word token) (option_or (time_word token) (option_or (math_word token) (option_or (compare_word token) (device_word token))))
+word_of token = find (λ word. bytes_eq (spelling word) token) WORDS
 
 -- what ladders are built of: all words but those that are not built for any target yet
 abbrev pub is_ladder_word : Word → Bool
+is_ladder_word Contacts = true
+is_ladder_word Coil = true
+is_ladder_word Osr = true
+is_ladder_word Osf = true
+is_ladder_word Short = true
+is_ladder_word Open = true
+is_ladder_word Comment = true
+is_ladder_word MasterRelay = true
+is_ladder_word Placeholder = true
+is_ladder_word Ton = true
+is_ladder_word Tof = true
+is_ladder_word Rto = true
+is_ladder_word Ctu = true
+is_ladder_word Ctd = true
+is_ladder_word Ctc = true
+is_ladder_word Res = true
+is_ladder_word Move = true
+is_ladder_word Add = true
+is_ladder_word Sub = true
+is_ladder_word Mul = true
+is_ladder_word Div = true
+is_ladder_word Equ = true
+is_ladder_word Neq = true
+is_ladder_word Grt = true
+is_ladder_word Geq = true
+is_ladder_word Les = true
+is_ladder_word Leq = true
+is_ladder_word ShiftRegister = true
+is_ladder_word LookUpTable = true
+is_ladder_word ReadAdc = true
+is_ladder_word SetPwm = true
+is_ladder_word UartRecv = true
+is_ladder_word UartSend = true
+is_ladder_word Persist = true
 is_ladder_word FormattedString = false
 is_ladder_word PiecewiseLinear = false
-is_ladder_word _ = true
 
 -- the words that are built for a target
 abbrev pub is_built : Target → Word → Bool

@@ -2,14 +2,13 @@
 
 ghost use Rattle.std.specs.Prelude.{◌≡◌, IfOk, map};
 ghost use Rattle.std.specs.Option.{option_map};
-ghost use Rattle.ld_base.specs.Lines.{pieces};
-ghost use Rattle.ld_line.specs.Header.{behind_word, target_of, first_target, setting, pair_says, tokens_say, header_of};
+ghost use Rattle.ld_line.specs.Header.{behind_word, setting, pair_says, tokens_say, header_of};
 
 use crate::number::{MOST_SETTING, natural_in};
 use crate::said::{Said, made};
+use crate::target::first_target;
 use crate::tokens::{tokens, trimmed};
 use chip_tables::Target;
-use ld_base::lines::split_piece;
 use std::alloc::{AllocError, Global};
 
 /// What a line above `PROGRAM` says.
@@ -36,39 +35,6 @@ fn behind_word<'a>(word: &[u8], bytes: &'a [u8]) -> Option<&'a [u8]>
     ensures { option_map (λ b. b.now) result ≡ behind_word word.now bytes.now }
 {
     bytes.strip_prefix(word)
-}
-
-/// The target that a word of a MICRO line chooses.
-fn target_of(word: &[u8]) -> Option<Target>
-    ensures { result ≡ target_of word.now }
-{
-    if word == b"PIC16F628".as_slice() {
-        Some(Target::F628)
-    } else if word == b"PIC16F877".as_slice() {
-        Some(Target::F877)
-    } else if word == b"ATmega16".as_slice() {
-        Some(Target::Mega16)
-    } else if word == b"Interpretable".as_slice() {
-        Some(Target::Interp)
-    } else if word == b"ANSI".as_slice() {
-        Some(Target::AnsiC)
-    } else {
-        None
-    }
-}
-
-/// The target of the first word that names one. Words are one space apart.
-fn first_target(text: &[u8]) -> Option<Target>
-    ensures { result ≡ first_target (pieces 32 text.now) }
-{
-    let mut rest = text;
-    while let Some((word, behind)) = split_piece(b' ', rest) {
-        match target_of(word) {
-            Some(target) => return Some(target),
-            None => rest = behind,
-        }
-    }
-    target_of(rest)
 }
 
 /// What a line of one token says.

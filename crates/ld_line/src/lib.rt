@@ -9,7 +9,6 @@ pub mod operand;
 pub mod pins;
 pub mod rungs;
 pub mod said;
-#[cfg(test)]
-mod tests;
+pub mod target;
 pub mod tokens;
 pub mod word;

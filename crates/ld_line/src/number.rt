@@ -3,7 +3,9 @@
 ghost use Rattle.std.specs.Prelude.{◌≡◌, ◌≤◌, ◌<◌, ◌-◌, ◌^◌, min, ℤ, pos, neg_ℤ, unsigned_abs, Option, MatchOption};
 ghost use Rattle.std.specs.Option.{option_map};
 ghost use Rattle.ld_line.specs.Said.{IfIs, said_map};
-ghost use Rattle.ld_line.specs.Numbers.{digits, signed, number, in_range, natural_in, integer, IsSized};
+ghost use Rattle.ld_line.specs.Numbers.{signed, number, in_range, natural_in, integer};
+ghost use Rattle.ld_line.specs.Steps.{IsSized};
+ghost use Rattle.texts.specs.Digits.{digits};
 
 use crate::said::Said;
 

@@ -2,7 +2,8 @@
 
 ghost use Rattle.std.specs.Prelude.{◌≡◌, IfOk, slice_index_or};
 ghost use Rattle.std.specs.List.{list_all};
-ghost use Rattle.ladder_tree.specs.Names.{is_name, is_name_byte, is_digit};
+ghost use Rattle.ladder_tree.specs.Names.{is_name, is_name_byte};
+ghost use Rattle.texts.specs.Digits.{is_digit};
 ghost use Rattle.ld_line.specs.Operands.{name, flag, is_character, operand};
 
 use crate::number::integer;

@@ -2,7 +2,8 @@
 
 ghost use Rattle.std.specs.Prelude.{◌≡◌, ◌<◌, ◌≤◌, ◌∷◌, [], length, map, IfOk, MatchOption};
 ghost use Rattle.std.specs.List.{position_or_len};
-ghost use Rattle.ld_line.specs.Tokens.{is_blank, behind, before, without_returns, trimmed, runs, tokens, comment_text, is_magic, IsFirstRun};
+ghost use Rattle.ld_line.specs.Tokens.{is_blank, behind, before, without_returns, trimmed, runs, tokens, comment_text, is_magic};
+ghost use Rattle.ld_line.specs.Steps.{IsFirstRun};
 
 use std::alloc::{AllocError, Global};
 

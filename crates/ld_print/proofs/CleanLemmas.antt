@@ -2,8 +2,8 @@
 use Rattle.std.proofs.Common.{◌≡◌, ◌≢◌, ◌==◌, if◌then◌else◌, ℕ, Bool, true, false, List, [], ◌∷◌, ◌++◌, refl, ap, ◌∙◌, arith, append-nil}
 use Rattle.std.proofs.lemmas.Bool.Decides.{nat_tests}
 use Rattle.std.proofs.lemmas.List.Elements.{All-nil, All-cons}
-use Rattle.ld_base.specs.Lines.{IsLine, pieces, onto, joined}
-use Rattle.ld_base.proofs.LineLemmas.{pieces-piece}
+use Rattle.texts.specs.Lines.{IsLine, pieces, onto, joined}
+use Rattle.texts.proofs.LineLemmas.{pieces-piece}
 use Rattle.ld_text.specs.Lines.{Line, ended, last_of, open_line, lines_of}
 use Rattle.ld_print.proofs.FineLemmas.{AllClean}
 use Rattle.ld_print.proofs.WalkLemmas.{line_of, map_lines}

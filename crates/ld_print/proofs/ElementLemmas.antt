@@ -13,7 +13,7 @@ use Rattle.ld_line.specs.Range.{is_read_kind}
 use Rattle.ld_line.specs.Rungs.{alone, alone_or, element_by, rung_tokens_say}
 use Rattle.ld_line.specs.Said.{said_map}
 use Rattle.ld_line.specs.Tokens.{is_blank, is_return, behind, tokens, runs, without_returns}
-use Rattle.ld_line.specs.Words.{word_of, is_ladder_word, is_target_built}
+use Rattle.ld_line.specs.Words.{spelling, word_of, is_ladder_word, is_target_built}
 use Rattle.ld_line.specs.declared.said.Said.TheVariants.{Is}
 use Rattle.ld_line.specs.declared.rungs.RungLine.TheVariants as rung
 use Rattle.ld_line.specs.declared.word.Word.{Word}
@@ -24,9 +24,10 @@ use Rattle.ld_text.specs.declared.place.Site.TheVariants as site
 use Rattle.ld_text.specs.Place.{unless_blank, inside, said_in}
 use Rattle.ld_text.specs.Faults.{has_unbuilt_word, begins_unbuilt}
 use Rattle.ld_print.specs.Words as words
+use Rattle.ld_print.specs.Words.{word_for}
 use Rattle.ld_print.proofs.TokenLemmas.{IsToken, short_tokens, short_behind, ends, ends_some, before_same, behind_indent, runs_indent, runs_word, tokens_printed}
 use Rattle.ld_print.proofs.LineLemmas.{not_feed, Fits, clean_both, clean_token, clean_behind}
-use Rattle.ld_print.proofs.KindLemmas.{is_comment, word_for, kind_begins, kind_short, kind_read}
+use Rattle.ld_print.proofs.KindLemmas.{is_comment, kind_begins, kind_short, kind_read}
 
 -- a comment's text that stands on a line behind the word
 pub record FitsLine (text : List ℕ) : Type 0 where
@@ -58,7 +59,8 @@ word_built F877 w h g = absurd cc
 word_built Mega16 w h g = absurd cc
 word_built AnsiC w h g = absurd cc
 
-said_by_word : (line token : List ℕ) (rest : List (List ℕ)) (w : Word) (k : LeafKind) → tokens line ≡ token ∷ rest → alone token ≡ None → word_of token ≡ Some w → is_ladder_word w ≡ true → element_of w rest line ≡ Is k → ElementSaid k line
+said_by_word : (line token : List ℕ) (rest : List (List ℕ)) (w : Word) (k : LeafKind) → tokens line ≡ token ∷ rest → alone token ≡ None
+    → word_of token ≡ Some w → is_ladder_word w ≡ true → element_of w rest line ≡ Is k → ElementSaid k line
 said_by_word line token rest w k e a h b g = record {
   said = λ number.
       ap (λ ts. unless_blank ts (inside number (rung_tokens_say ts line))) e
@@ -78,7 +80,8 @@ bare_comment n =
     (ap (λ l. Is (kind.Comment (drop 8 (behind is_blank l)))) (before_same is_return line (ends_some is_return (replicate n 32) (codes "COMMENT") (omega arith) refl))
     ∙ ap (λ l. Is (kind.Comment (drop 8 l))) (behind_indent n (codes "COMMENT")))
 
-some_comment : (n : ℕ) (text : List ℕ) → 0 < length text → ends is_return text ≡ true → ElementSaid (kind.Comment text) (replicate n 32 ++ (codes "COMMENT" ++ 32 ∷ text))
+some_comment : (n : ℕ) (text : List ℕ) → 0 < length text → ends is_return text ≡ true
+    → ElementSaid (kind.Comment text) (replicate n 32 ++ (codes "COMMENT" ++ 32 ∷ text))
 some_comment n text some e =
     let line = replicate n 32 ++ (codes "COMMENT" ++ 32 ∷ text) in
     let whole : without_returns line ≡ line = before_same is_return line (ends_some is_return (replicate n 32) (codes "COMMENT" ++ 32 ∷ text) (omega arith) (ends_some is_return (codes "COMMENT ") text some e)) in
@@ -96,8 +99,8 @@ plain_said : (n : ℕ) (k : LeafKind) → IsPrintable k → is_comment k ≡ fal
 plain_said n k p c =
     let line = replicate n 32 ++ words.element_words k in
     let w = kind_begins k p.read in
-    said_by_word line (words.word k) (words.tokens_behind k) (word_for k) k
-    (tokens_printed n (words.word k) (words.tokens_behind k) w.is_token (short_tokens (words.tokens_behind k) (kind_short k p.read c))) w.no_form w.known w.built (kind_read k p.read c line)
+    said_by_word line (spelling (word_for k)) (words.tokens_behind k) (word_for k) k
+    (tokens_printed n (spelling (word_for k)) (words.tokens_behind k) w.is_token (short_tokens (words.tokens_behind k) (kind_short k p.read c))) w.no_form w.known w.built (kind_read k p.read c line)
 
 -- the line of an element behind blanks
 pub element_said : (n : ℕ) (k : LeafKind) → IsPrintable k → ElementSaid k (replicate n 32 ++ words.element_words k)
@@ -116,7 +119,7 @@ comment_fits (c ∷ cs) f = record {
 -- four tokens behind a word
 few_tokens : (k : LeafKind) → length (words.tokens_behind k) ≤ 4 → is_read_kind k ≡ true → is_comment k ≡ false → length (words.element_words k) ≤ 512
 few_tokens k few h c =
-    omega (arith, length-append (words.word k) (words.behind_spaces (words.tokens_behind k)), (kind_begins k h).short, short_behind (words.tokens_behind k) (kind_short k h c), few)
+    omega (arith, length-append (spelling (word_for k)) (words.behind_spaces (words.tokens_behind k)), (kind_begins k h).short, short_behind (words.tokens_behind k) (kind_short k h c), few)
 
 four_flags : (name : List ℕ) (m : CoilMode) → length (words.tokens_behind (kind.Coil name m)) ≤ 4
 four_flags name mode.Plain = omega arith
@@ -136,7 +139,7 @@ plain_fits : (k : LeafKind) → IsPrintable k → is_comment k ≡ false → Fit
 plain_fits k p c =
     let w = kind_begins k p.read in
     let ts = short_tokens (words.tokens_behind k) (kind_short k p.read c) in
-    record { short = short_enough k p c; clean = clean_both (words.word k) (words.behind_spaces (words.tokens_behind k)) (clean_token (words.word k) w.is_token.plain) (clean_behind (words.tokens_behind k) ts) }
+    record { short = short_enough k p c; clean = clean_both (spelling (word_for k)) (words.behind_spaces (words.tokens_behind k)) (clean_token (spelling (word_for k)) w.is_token.plain) (clean_behind (words.tokens_behind k) ts) }
 
 pub element_fits : (k : LeafKind) → IsPrintable k → Fits (words.element_words k)
 element_fits (kind.Comment text) p = comment_fits text p.text

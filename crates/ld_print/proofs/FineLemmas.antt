@@ -1,5 +1,6 @@
 -- What is known of the lines of a text that has no fault.
 use Rattle.std.proofs.Common.{◌≡◌, ◌&&◌, ◌||◌, eqb, ltb, ℕ, zero, suc, ◌+◌, ◌-◌, ◌≤◌, nat_le, Bool, true, false, not, if◌then◌else◌, List, [], ◌∷◌, drop, length, map, reverse, codes, Option, Some, None, refl, sym, ap, subst, ◌∙◌, arith, length-drop}
+use Rattle.std.proofs.lemmas.Bool.{and_parts, not-false, or_parts}
 use Rattle.std.specs.List.{list_all}
 use Rattle.std.specs.Str.{bytes_eq}
 use Rattle.std.proofs.lemmas.Bool.Decides.{nat_tests}
@@ -20,7 +21,7 @@ use Rattle.ladder_tree.specs.declared.element.LeafKind.TheVariants as kind
 use Rattle.ladder_tree.specs.declared.fault.ProjectFault.{ProjectFault}
 use Rattle.ladder_tree.specs.declared.project.PinLine as pin
 use Rattle.ladder_tree.specs.Names.{is_name}
-use Rattle.ld_base.specs.Lines.{IsLine}
+use Rattle.texts.specs.Lines.{IsLine}
 use Rattle.ld_line.proofs.RangeLemmas.{in_their_ranges, pins_in_range, settings_in_range}
 use Rattle.ld_line.proofs.SaidLemmas.{said_so}
 use Rattle.ld_line.specs.Elements.{only_name, named, contacts, mode_from, coil, timer_of, counter_of, move, operand_pair, math, compare, shift, pwm, element_of}
@@ -53,7 +54,7 @@ use Rattle.ld_text.specs.Faults.{is_first, has_unbuilt_word, begins_unbuilt, nam
 use Rattle.ld_text.specs.Text.{unblanked, said_by}
 use Rattle.ld_text.proofs.TakenLemmas.{Passes, passes}
 use Rattle.ld_text.proofs.SaidLemmas.{AllowedAt, allowed, element_worded}
-use Rattle.ld_print.proofs.TokenLemmas.{both_true, ends, ends-append}
+use Rattle.ld_print.proofs.TokenLemmas.{at_most, ends, ends-append}
 use Rattle.ld_print.specs.Words.{behind_spaces}
 use Rattle.ld_print.proofs.LineLemmas.{not_feed, clean_line, clean_both}
 use Rattle.ld_print.proofs.ElementLemmas.{FitsLine, TextFits, IsPrintable}
@@ -98,7 +99,8 @@ unsized p = record p { bytes = 0 }
 ends_before : (test : ℕ → Bool) (bs : List ℕ) → ends test (before test bs) ≡ true
 ends_before test bs = by (reverse bs)
   where
-    turned : (b : Bool) (r : ℕ) (rs : List ℕ) → test r ≡ b → ends test (reverse (behind test rs)) ≡ true → ends test (reverse (if b then behind test rs else r ∷ rs)) ≡ true
+    turned : (b : Bool) (r : ℕ) (rs : List ℕ) → test r ≡ b → ends test (reverse (behind test rs)) ≡ true
+        → ends test (reverse (if b then behind test rs else r ∷ rs)) ≡ true
     turned true r rs e h = h
     turned false r rs e h = ap (ends test) (reverse-append (r ∷ []) rs) ∙ ends-append test (reverse rs) r [] ∙ ap not e
 
@@ -126,27 +128,29 @@ stays_behind [] = record { ends = λ h. h; clean = λ h. h; short = omega arith 
 stays_behind (b ∷ bs) = by (is_blank b) (stays_behind bs)
   where
     by : (x : Bool) → Stays bs (behind is_blank bs) → Stays (b ∷ bs) (if x then behind is_blank bs else b ∷ bs)
-    by true s = record { ends = λ h. s.ends (ends_rest is_return b bs h); clean = λ h. s.clean (both_true (not_feed b) (list_all not_feed bs) h).1; short = omega (arith, s.short) }
+    by true s = record { ends = λ h. s.ends (ends_rest is_return b bs h); clean = λ h. s.clean (and_parts (not_feed b) (list_all not_feed bs) h).1; short = omega (arith, s.short) }
     by false s = record { ends = λ h. h; clean = λ h. h; short = omega arith }
 
 clean_reverse : (xs : List ℕ) → list_all not_feed xs ≡ true → list_all not_feed (reverse xs) ≡ true
 clean_reverse [] h = refl
 clean_reverse (x ∷ xs) h =
-    let g = both_true (not_feed x) (list_all not_feed xs) h in
+    let g = and_parts (not_feed x) (list_all not_feed xs) h in
     ap (list_all not_feed) (reverse-append (x ∷ []) xs) ∙ clean_both (reverse xs) (x ∷ []) (clean_reverse xs g.1) (rw g.0 refl)
 
-clean_front : (test : ℕ → Bool) (xs : List ℕ) → list_all not_feed xs ≡ true → (list_all not_feed (behind test xs) ≡ true) × (length (behind test xs) ≤ length xs)
+clean_front : (test : ℕ → Bool) (xs : List ℕ) → list_all not_feed xs ≡ true
+    → (list_all not_feed (behind test xs) ≡ true) × (length (behind test xs) ≤ length xs)
 clean_front test [] h = (refl, omega arith)
-clean_front test (x ∷ xs) h = by (test x) (clean_front test xs (both_true (not_feed x) (list_all not_feed xs) h).1)
+clean_front test (x ∷ xs) h = by (test x) (clean_front test xs (and_parts (not_feed x) (list_all not_feed xs) h).1)
   where
-    by : (b : Bool) → (list_all not_feed (behind test xs) ≡ true) × (length (behind test xs) ≤ length xs) → (list_all not_feed (if b then behind test xs else x ∷ xs) ≡ true) × (length (if b then behind test xs else x ∷ xs) ≤ length (x ∷ xs))
+    by : (b : Bool) → (list_all not_feed (behind test xs) ≡ true) × (length (behind test xs) ≤ length xs)
+        → (list_all not_feed (if b then behind test xs else x ∷ xs) ≡ true) × (length (if b then behind test xs else x ∷ xs) ≤ length (x ∷ xs))
     by true r = (r.0, omega (arith, r.1))
     by false r = (h, omega arith)
 
 clean_drop : (n : ℕ) (xs : List ℕ) → list_all not_feed xs ≡ true → list_all not_feed (drop n xs) ≡ true
 clean_drop zero xs h = h
 clean_drop (suc n) [] h = refl
-clean_drop (suc n) (x ∷ xs) h = clean_drop n xs (both_true (not_feed x) (list_all not_feed xs) h).1
+clean_drop (suc n) (x ∷ xs) h = clean_drop n xs (and_parts (not_feed x) (list_all not_feed xs) h).1
 
 comment_stays : (bytes : List ℕ) → length bytes ≤ 512 → IsLine bytes → FitsLine (comment_text bytes)
 comment_stays bytes short clean =
@@ -230,7 +234,8 @@ pwm_text (n ∷ []) = tt
 pwm_text (n ∷ z ∷ []) = made_text _ (both (read.name n) (natural_in 0 most_setting z)) (λ a. tt)
 pwm_text (n ∷ z ∷ t ∷ ts) = tt
 
-text_fits : (w : Word) (ts : List (List ℕ)) (bytes : List ℕ) → FitsLine (comment_text bytes) → (Some w ≡ Some word.LookUpTable → length (behind_spaces ts) ≤ 499) → IfIs (element_of w ts bytes) TextFits
+text_fits : (w : Word) (ts : List (List ℕ)) (bytes : List ℕ) → FitsLine (comment_text bytes)
+    → (Some w ≡ Some word.LookUpTable → length (behind_spaces ts) ≤ 499) → IfIs (element_of w ts bytes) TextFits
 text_fits word.Contacts ts bytes f r = contacts_text ts
 text_fits word.Coil ts bytes f r = coil_text ts
 text_fits word.Osr ts bytes f r = bare_text kind.Osr ts tt
@@ -268,7 +273,8 @@ text_fits word.Persist ts bytes f r = named_text kind.Persist ts (λ n. tt)
 text_fits word.FormattedString ts bytes f r = tt
 text_fits word.PiecewiseLinear ts bytes f r = tt
 
-printable : (number : ℕ) (bytes : List ℕ) (l : leaf.Leaf) → length bytes ≤ 512 → IsLine bytes → said_in site.Inside number bytes ≡ Is (Body (mark.Element l)) → IsPrintable l.kind
+printable : (number : ℕ) (bytes : List ℕ) (l : leaf.Leaf) → length bytes ≤ 512 → IsLine bytes → said_in site.Inside number bytes ≡ Is (Body (mark.Element l))
+    → IsPrintable l.kind
 printable number bytes l short clean h =
     let w = element_worded number bytes l h in
     let room : Some w.word ≡ Some word.LookUpTable → length (behind_spaces w.rest) ≤ 499 = λ e. table_room bytes w.token w.rest short w.tokens (w.known ∙ e) in
@@ -279,13 +285,9 @@ printable number bytes l short clean h =
 
 -- words that are built
 
-is_true : (b : Bool) → not b ≡ false → b ≡ true
-is_true true h = refl
-is_true false h = absurd cc
-
 word_built : (o : Option Target) (w : Word) → has_unbuilt_word o (Some w) ≡ false → is_ladder_word w ≡ true
-word_built None w h = is_true (is_ladder_word w) h
-word_built (Some Interp) w h = is_true (is_ladder_word w) h
+word_built None w h = not-false (is_ladder_word w) h
+word_built (Some Interp) w h = not-false (is_ladder_word w) h
 word_built (Some F628) w h = absurd cc
 word_built (Some F877) w h = absurd cc
 word_built (Some Mega16) w h = absurd cc
@@ -304,9 +306,6 @@ pins_say [] x q e = absurd cc
 pins_say (t ∷ ts) Bad q e = absurd cc
 pins_say (t ∷ ts) Range q e = absurd cc
 pins_say (t ∷ ts) (Is r) q e = let same : Pins r ≡ Pins q = cc in let inner : r ≡ q = cc in ap Is inner
-
-at_most : (n most : ℕ) → nat_le n most ≡ true → n ≤ most
-at_most n most h = grind (arith, nat_tests)
 
 record NameFirst (ts : List (List ℕ)) (p : pin.PinLine) : Type 0 where
   rest : List (List ℕ)
@@ -342,9 +341,10 @@ free_everywhere : (o : Option Target) (w : Option Word) → has_unbuilt_word o w
 free_everywhere o None h = refl
 free_everywhere o (Some w) h = ap not (word_built o w h)
 
-pin_fits : (o : Option Target) (bytes : List ℕ) (p : pin.PinLine) → begins_unbuilt o (tokens bytes) ≡ false → pin_of_line (tokens bytes) ≡ Is (pins.Pin p) → PinFits p
+pin_fits : (o : Option Target) (bytes : List ℕ) (p : pin.PinLine) → begins_unbuilt o (tokens bytes) ≡ false → pin_of_line (tokens bytes) ≡ Is (pins.Pin p)
+    → PinFits p
 pin_fits o bytes p free h =
-    let r = both_true (is_name p.name) (nat_le p.pin most_pin) (pins_in_range (tokens bytes) (pins.Pin p) h) in
+    let r = and_parts (is_name p.name) (nat_le p.pin most_pin) (pins_in_range (tokens bytes) (pins.Pin p) h) in
     let f = name_first (tokens bytes) p h in
     record { named = r.0; number = at_most p.pin most_pin r.1; free = free_everywhere o (word_of p.name) (sym (ap (begins_unbuilt o) f.is) ∙ free) }
 
@@ -371,10 +371,6 @@ at_element site.Pins l a = absurd a
 at_element site.Between l a = absurd a
 at_element site.Inside l a = refl
 
-or_false : (a b : Bool) → (a || b) ≡ false → (a ≡ false) × (b ≡ false)
-or_false true b h = absurd cc
-or_false false b h = (refl, h)
-
 not_over : (n k : ℕ) → ltb n k ≡ false → k ≤ n
 not_over n k h = grind (arith, nat_tests)
 
@@ -386,14 +382,16 @@ record Seen (p : Place) (bytes : List ℕ) (f : Form) : Type 0 where
 
 seen : (p : Place) (bytes : List ℕ) (size : ℕ) (f : Form) → is_first p.site ≡ false → Passes p bytes size (Is f) → Seen p bytes f
 seen p bytes size f e all =
-    let k = or_false (begins_unbuilt p.target (tokens bytes)) (names_unbuilt (Is f)) (ap (λ b. not b && (begins_unbuilt p.target (tokens bytes) || names_unbuilt (Is f))) (sym e) ∙ all.built) in
+    let k = or_parts (begins_unbuilt p.target (tokens bytes)) (names_unbuilt (Is f)) (ap (λ b. not b && (begins_unbuilt p.target (tokens bytes) || names_unbuilt (Is f))) (sym e) ∙ all.built) in
     record { short = not_over 512 (length bytes) all.short; free = k.0; built = k.1 }
 
-setting_fits : (p : Place) (number : ℕ) (bytes : List ℕ) (size : ℕ) (h : HeaderLine) → p.site ≡ site.Header → said_in p.site number bytes ≡ Is (Header h) → Passes p bytes size (Is (Header h)) → FormFits (Header h)
-setting_fits p number bytes size h e said all = by h (settings_in_range bytes h (header_says (tokens bytes) (header_of bytes) h (ap (λ x. said_in x number bytes) (sym e) ∙ said))) (seen p bytes size (Header h) (ap is_first e) all).built
+setting_fits : (p : Place) (number : ℕ) (bytes : List ℕ) (size : ℕ) (h : HeaderLine) → p.site ≡ site.Header → said_in p.site number bytes ≡ Is (Header h)
+    → Passes p bytes size (Is (Header h)) → FormFits (Header h)
+setting_fits p number bytes size h e said all =
+    by h (settings_in_range bytes h (header_says (tokens bytes) (header_of bytes) h (ap (λ x. said_in x number bytes) (sym e) ∙ said))) (seen p bytes size (Header h) (ap is_first e) all).built
   where
     by : (h : HeaderLine) → is_read_setting h ≡ true → names_unbuilt (Is (Header h)) ≡ false → FormFits (Header h)
-    by (header.Micro (Some t)) r b = is_true (is_target_built t) b
+    by (header.Micro (Some t)) r b = not-false (is_target_built t) b
     by (header.Micro None) r b = tt
     by (header.Cycle n) r b = at_most n most_setting r
     by (header.Crystal n) r b = at_most n most_setting r
@@ -402,7 +400,8 @@ setting_fits p number bytes size h e said all = by h (settings_in_range bytes h 
     by header.Pins r b = tt
     by header.Program r b = tt
 
-form_fits : (p : Place) (number : ℕ) (bytes : List ℕ) (size : ℕ) (f : Form) → AllowedAt p.site f → said_in p.site number bytes ≡ Is f → Passes p bytes size (Is f) → IsLine bytes → FormFits f
+form_fits : (p : Place) (number : ℕ) (bytes : List ℕ) (size : ℕ) (f : Form) → AllowedAt p.site f → said_in p.site number bytes ≡ Is f
+    → Passes p bytes size (Is f) → IsLine bytes → FormFits f
 form_fits p number bytes size Blank a said all clean = tt
 form_fits p number bytes size Magic a said all clean = tt
 form_fits p number bytes size (Header h) a said all clean = setting_fits p number bytes size h (at_header p.site h a) said all
@@ -422,7 +421,7 @@ fine_line : (p : Place) (number : ℕ) (l : Line) (f : Form) → fault_at p numb
 fine_line p number l f h said clean =
     let all = passes p number l.bytes (size_of l) (Is f) (ap (fault_of p number l.bytes (size_of l)) (sym said) ∙ h) in
     let a = allowed p.site number l.bytes f said in
-    record { allowed = a; shallow = all.shallow; few = (or_false (is_one_too_many p (Is f)) _ all.few).0; fits = form_fits p number l.bytes (size_of l) f a said all clean }
+    record { allowed = a; shallow = all.shallow; few = (or_parts (is_one_too_many p (Is f)) _ all.few).0; fits = form_fits p number l.bytes (size_of l) f a said all clean }
 
 fine_unsized : (p : Place) (f : Form) → Fine p f → Fine (unsized p) f
 fine_unsized p Blank h = record { allowed = h.allowed; shallow = refl; few = refl; fits = h.fits }
@@ -467,7 +466,8 @@ pub none_both : (a b : Option ProjectFault) → or_else a b ≡ None → (a ≡ 
 none_both (Some f) b h = absurd cc
 none_both None b h = (refl, h)
 
-said_more : (p : Place) (f : Form) (others : List (Said Form)) (fs : List Form) → Is f ∷ others ≡ map Is fs → Fine p f → ((gs : List Form) → others ≡ map Is gs → AllFine (unsized (behind_form p f)) gs) → AllFine (unsized p) fs
+said_more : (p : Place) (f : Form) (others : List (Said Form)) (fs : List Form) → Is f ∷ others ≡ map Is fs → Fine p f
+    → ((gs : List Form) → others ≡ map Is gs → AllFine (unsized (behind_form p f)) gs) → AllFine (unsized p) fs
 said_more p f others [] h fine rest = absurd cc
 said_more p f others (g ∷ gs) h fine rest =
     let head : Is f ≡ Is g = cc in
@@ -475,14 +475,16 @@ said_more p f others (g ∷ gs) h fine rest =
     let tail : others ≡ map Is gs = cc in
     (subst (Fine (unsized p)) same (fine_unsized p f fine), subst (λ x. AllFine x gs) (behind_unsized p f ∙ ap (behind_form (unsized p)) same) (rest gs tail))
 
-one_more : (p : Place) (f : Form) (others : List (Said Form)) (fs : List Form) → unblanked (Is f) others ≡ map Is fs → Fine p f → ((gs : List Form) → others ≡ map Is gs → AllFine (unsized (behind_form p f)) gs) → AllFine (unsized p) fs
+one_more : (p : Place) (f : Form) (others : List (Said Form)) (fs : List Form) → unblanked (Is f) others ≡ map Is fs → Fine p f
+    → ((gs : List Form) → others ≡ map Is gs → AllFine (unsized (behind_form p f)) gs) → AllFine (unsized p) fs
 one_more p Blank others fs h fine rest = rest fs h
 one_more p Magic others fs h fine rest = said_more p Magic others fs h fine rest
 one_more p (Header g) others fs h fine rest = said_more p (Header g) others fs h fine rest
 one_more p (Pins g) others fs h fine rest = said_more p (Pins g) others fs h fine rest
 one_more p (Body g) others fs h fine rest = said_more p (Body g) others fs h fine rest
 
-pub fine_lines : (ls : List Line) (p : Place) (n : ℕ) (fs : List Form) → AllClean ls → first_fault p n ls ≡ None → said_by p n ls ≡ map Is fs → (behind_all p n ls).site ≡ site.Between → AllFine (unsized p) fs
+pub fine_lines : (ls : List Line) (p : Place) (n : ℕ) (fs : List Form) → AllClean ls → first_fault p n ls ≡ None → said_by p n ls ≡ map Is fs
+    → (behind_all p n ls).site ≡ site.Between → AllFine (unsized p) fs
 fine_lines [] p n [] c h said e = e
 fine_lines [] p n (f ∷ fs) c h said e = absurd cc
 fine_lines (l ∷ ls) p n fs c h said e =
@@ -494,7 +496,8 @@ fine_lines (l ∷ ls) p n fs c h said e =
     all : Passes p l.bytes (size_of l) (said_at p n l)
     all = passes p n l.bytes (size_of l) (said_at p n l) none.0
 
-    by : (x : Said Form) → said_at p n l ≡ x → ((gs : List Form) → said_by (place.behind p n l) (n + 1) ls ≡ map Is gs → AllFine (unsized (place.behind p n l)) gs) → AllFine (unsized p) fs
+    by : (x : Said Form) → said_at p n l ≡ x
+        → ((gs : List Form) → said_by (place.behind p n l) (n + 1) ls ≡ map Is gs → AllFine (unsized (place.behind p n l)) gs) → AllFine (unsized p) fs
     by Bad g rest = let no = ap is_bad (sym g) ∙ all.good in absurd cc
     by Range g rest = let no = ap is_out_of_range (sym g) ∙ all.range in absurd cc
     by (Is f) g rest =

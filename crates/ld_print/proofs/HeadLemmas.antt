@@ -11,6 +11,7 @@ use Rattle.ld_line.specs.Header.{behind_word, setting, tokens_say, compiled_or, 
 use Rattle.ld_line.specs.Numbers.{natural_in, most_setting, most_pin}
 use Rattle.ld_line.specs.Pins.{pin_of_line}
 use Rattle.ld_line.specs.Said.{said_map, both}
+use Rattle.ld_line.specs.Targets.{target_text}
 use Rattle.ld_line.specs.Tokens.{tokens}
 use Rattle.ld_line.specs.Words.{word_of}
 use Rattle.ld_line.specs.declared.said.Said.TheVariants.{Is}
@@ -34,14 +35,15 @@ pub record HeaderSaid (line : List ℕ) (f : Form) : Type 0 where
   pub free : (o : Option Target) → begins_unbuilt o (tokens line) ≡ false
   pub fits : Fits line
 
-pub micro_said : (t : Target) → HeaderSaid (codes "MICRO=" ++ print.target_text t) (Header (header.Micro (Some t)))
+pub micro_said : (t : Target) → HeaderSaid (codes "MICRO=" ++ target_text t) (Header (header.Micro (Some t)))
 micro_said F628 = record { said = λ n. refl; free = λ o. refl; fits = record { short = omega arith; clean = refl } }
 micro_said F877 = record { said = λ n. refl; free = λ o. refl; fits = record { short = omega arith; clean = refl } }
 micro_said Mega16 = record { said = λ n. refl; free = λ o. refl; fits = record { short = omega arith; clean = refl } }
 micro_said Interp = record { said = λ n. refl; free = λ o. refl; fits = record { short = omega arith; clean = refl } }
 micro_said AnsiC = record { said = λ n. refl; free = λ o. refl; fits = record { short = omega arith; clean = refl } }
 
-token_said : (line : List ℕ) (h : HeaderLine) → IsToken line → length line ≤ 512 → behind_word (codes "MICRO=") line ≡ None → behind_word (codes "COMPILED=") line ≡ None → setting line ≡ Is h → word_of line ≡ None → HeaderSaid line (Header h)
+token_said : (line : List ℕ) (h : HeaderLine) → IsToken line → length line ≤ 512 → behind_word (codes "MICRO=") line ≡ None
+    → behind_word (codes "COMPILED=") line ≡ None → setting line ≡ Is h → word_of line ≡ None → HeaderSaid line (Header h)
 token_said line h t short a b e w =
     let whole = trimmed_token line t in
     let one = tokens_token line t in
@@ -61,15 +63,18 @@ key_short n key k h = omega (arith, length-append key (decimal n), length-decima
 
 pub cycle_said : (n : ℕ) → n ≤ most_setting → HeaderSaid (codes "CYCLE=" ++ decimal n) (Header (header.Cycle n))
 unfolding setting
-cycle_said n h = token_said (codes "CYCLE=" ++ decimal n) (header.Cycle n) (record { some = omega arith; plain = (decimal_token n (omega arith)).plain }) (key_short n (codes "CYCLE=") (omega arith) h) refl refl (ap (said_map header.Cycle) (natural_read 0 most_setting n (omega arith) h (omega arith))) refl
+cycle_said n h =
+    token_said (codes "CYCLE=" ++ decimal n) (header.Cycle n) (record { some = omega arith; plain = (decimal_token n (omega arith)).plain }) (key_short n (codes "CYCLE=") (omega arith) h) refl refl (ap (said_map header.Cycle) (natural_read 0 most_setting n (omega arith) h (omega arith))) refl
 
 pub crystal_said : (n : ℕ) → n ≤ most_setting → HeaderSaid (codes "CRYSTAL=" ++ decimal n) (Header (header.Crystal n))
 unfolding setting
-crystal_said n h = token_said (codes "CRYSTAL=" ++ decimal n) (header.Crystal n) (record { some = omega arith; plain = (decimal_token n (omega arith)).plain }) (key_short n (codes "CRYSTAL=") (omega arith) h) refl refl (ap (said_map header.Crystal) (natural_read 0 most_setting n (omega arith) h (omega arith))) refl
+crystal_said n h =
+    token_said (codes "CRYSTAL=" ++ decimal n) (header.Crystal n) (record { some = omega arith; plain = (decimal_token n (omega arith)).plain }) (key_short n (codes "CRYSTAL=") (omega arith) h) refl refl (ap (said_map header.Crystal) (natural_read 0 most_setting n (omega arith) h (omega arith))) refl
 
 pub baud_said : (n : ℕ) → n ≤ most_setting → HeaderSaid (codes "BAUD=" ++ decimal n) (Header (header.Baud n))
 unfolding setting
-baud_said n h = token_said (codes "BAUD=" ++ decimal n) (header.Baud n) (record { some = omega arith; plain = (decimal_token n (omega arith)).plain }) (key_short n (codes "BAUD=") (omega arith) h) refl refl (ap (said_map header.Baud) (natural_read 0 most_setting n (omega arith) h (omega arith))) refl
+baud_said n h =
+    token_said (codes "BAUD=" ++ decimal n) (header.Baud n) (record { some = omega arith; plain = (decimal_token n (omega arith)).plain }) (key_short n (codes "BAUD=") (omega arith) h) refl refl (ap (said_map header.Baud) (natural_read 0 most_setting n (omega arith) h (omega arith))) refl
 
 -- a pin line that is read again where it is printed
 pub record PinFits (p : pin.PinLine) : Type 0 where

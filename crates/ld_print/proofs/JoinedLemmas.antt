@@ -3,7 +3,7 @@ use Rattle.std.proofs.Common.{◌≡◌, ℕ, suc, get_or, drop, add-one, drop-c
 use Rattle.std.specs.Prelude.{replicate}
 use Rattle.std.proofs.lemmas.Bool.Decides.{nat_tests}
 use Rattle.ld_print.specs.Words.{element_words}
-use Rattle.ld_base.specs.Lines.{joined}
+use Rattle.texts.specs.Lines.{joined}
 use Rattle.ladder_tree.specs.declared.element.Leaf as leaf
 use Rattle.ladder_tree.specs.declared.project.Node.{Node, Leaf, Series, Parallel}
 use Rattle.ladder_tree.specs.declared.project.Node.TheOpen.{Node-F}
@@ -20,7 +20,8 @@ joined-append (l ∷ ls) b = ap (λ t. l ++ 10 ∷ t) (joined-append ls b) ∙ s
 at_indents : (i j : ℕ) (words : List ℕ) → min 513 i ≡ min 513 j → indented i words ≡ indented j words
 at_indents i j words h = by (nat_le (i + length words) 512) (nat_le (j + length words) 512) refl refl
   where
-    by : (a b : Bool) → nat_le (i + length words) 512 ≡ a → nat_le (j + length words) 512 ≡ b → (if a then replicate i 32 ++ words else words) ≡ (if b then replicate j 32 ++ words else words)
+    by : (a b : Bool) → nat_le (i + length words) 512 ≡ a → nat_le (j + length words) 512 ≡ b
+        → (if a then replicate i 32 ++ words else words) ≡ (if b then replicate j 32 ++ words else words)
     by true true e f = let same : i ≡ j = grind (arith, nat_tests) in ap (λ k. replicate k 32 ++ words) same
     by true false e f = absurd (grind (arith, nat_tests))
     by false true e f = absurd (grind (arith, nat_tests))
@@ -42,7 +43,8 @@ nodes_settled : (ns : List Node) → Each IsSettled ns → (i j : ℕ) → min 5
 nodes_settled [] h i j e = refl
 nodes_settled (n ∷ ns) h i j e = ap (λ ls. ls ++ nodes_lines i ns) (h.0 i j e) ∙ ap (λ ls. node_lines n j ++ ls) (nodes_settled ns h.1 i j e)
 
-form_settled : (word : List ℕ) (ns : List Node) → Each IsSettled ns → (i j : ℕ) → min 513 i ≡ min 513 j → form_lines word i (map node_lines ns) ≡ form_lines word j (map node_lines ns)
+form_settled : (word : List ℕ) (ns : List Node) → Each IsSettled ns → (i j : ℕ) → min 513 i ≡ min 513 j
+    → form_lines word i (map node_lines ns) ≡ form_lines word j (map node_lines ns)
 form_settled word ns h i j e =
     ap (λ l. l ∷ (nodes_lines (i + 4) ns ++ indented i (codes "END") ∷ [])) (at_indents i j word e)
     ∙ ap (λ ls. indented j word ∷ (ls ++ indented i (codes "END") ∷ [])) (nodes_settled ns h (i + 4) (j + 4) (omega arith))
@@ -63,7 +65,8 @@ pub lines_settled : (ns : List Node) (i j : ℕ) → min 513 i ≡ min 513 j →
 lines_settled ns i j e = nodes_settled ns (each_settled ns) i j e
 
 -- a form as it is written: the line that opens it, its nodes, and END
-pub form_written : (t u v w opening end : List ℕ) (nodes : List (List ℕ)) → u ≡ t ++ joined (opening ∷ []) → v ≡ u ++ joined nodes → w ≡ v ++ joined (end ∷ []) → w ≡ t ++ joined (opening ∷ (nodes ++ end ∷ []))
+pub form_written : (t u v w opening end : List ℕ) (nodes : List (List ℕ)) → u ≡ t ++ joined (opening ∷ []) → v ≡ u ++ joined nodes
+    → w ≡ v ++ joined (end ∷ []) → w ≡ t ++ joined (opening ∷ (nodes ++ end ∷ []))
 form_written t u v w opening end nodes a b c =
     c ∙ ap (λ x. x ++ joined (end ∷ [])) (b ∙ ap (λ x. x ++ joined nodes) a)
     ∙ append_assoc (t ++ joined (opening ∷ [])) (joined nodes) (joined (end ∷ []))
@@ -80,7 +83,8 @@ lines_more t u some rest all e h =
     ∙ ap (λ x. t ++ x) (sym (ap joined e ∙ joined-append some rest))
 
 -- the whole text as it is written: down to IO LIST, the pins, down to PROGRAM, the rungs
-pub whole_written : (t u v w : List ℕ) (head pins middle rungs : List (List ℕ)) → t ≡ joined head → u ≡ t ++ joined pins → v ≡ u ++ joined middle → w ≡ v ++ joined rungs → w ≡ joined (head ++ (pins ++ (middle ++ rungs)))
+pub whole_written : (t u v w : List ℕ) (head pins middle rungs : List (List ℕ)) → t ≡ joined head → u ≡ t ++ joined pins → v ≡ u ++ joined middle
+    → w ≡ v ++ joined rungs → w ≡ joined (head ++ (pins ++ (middle ++ rungs)))
 whole_written t u v w head pins middle rungs a b c d =
     d ∙ ap (λ x. x ++ joined rungs) (c ∙ ap (λ x. x ++ joined middle) (b ∙ ap (λ x. x ++ joined pins) a))
     ∙ append_assoc (joined head ++ joined pins) (joined middle) (joined rungs)

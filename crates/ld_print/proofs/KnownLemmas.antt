@@ -54,5 +54,6 @@ known text p r =
       baud = subst (λ n. n ≤ most_setting) (sym (ap (λ x. x.baud) same)) led.fit.baud;
       pins = subst AllPinsFit pins led.fit.pins;
       few = subst (λ ps. length ps ≤ 4000) pins led.fit.few;
-      body = subst (λ t. AllFine (place_in site.Between t (length p.pins)) (map Body (spelled p.rungs))) r.project.target (subst (λ ps. AllFine (place_in site.Between s.target (length ps)) (map Body (spelled p.rungs))) pins led.rest.1);
+      body =
+          subst (λ t. AllFine (place_in site.Between t (length p.pins)) (map Body (spelled p.rungs))) r.project.target (subst (λ ps. AllFine (place_in site.Between s.target (length ps)) (map Body (spelled p.rungs))) pins led.rest.1);
     }

@@ -1,12 +1,13 @@
 -- Lines that are short enough and have no line feed.
 use Rattle.std.proofs.Common.{◌≡◌, ◌≢◌, ◌==◌, ℕ, ◌≤◌, Bool, true, false, not, List, [], ◌∷◌, ◌++◌, length, refl, ◌∙◌, arith}
+use Rattle.std.proofs.lemmas.Bool.{and_parts, not-true}
 use Rattle.std.specs.List.{list_all}
 use Rattle.std.proofs.lemmas.Bool.Decides.{nat_tests}
 use Rattle.std.proofs.lemmas.List.Elements.{All-cons, All-nil, All-head, All-tail}
 use Rattle.std.proofs.lemmas.List.Folds.{list_all-append}
-use Rattle.ld_base.specs.Lines.{IsLine}
+use Rattle.texts.specs.Lines.{IsLine}
 use Rattle.ld_print.specs.Words.{behind_spaces}
-use Rattle.ld_print.proofs.TokenLemmas.{both_true, not_true, is_plain, AllTokens, plain_line}
+use Rattle.ld_print.proofs.TokenLemmas.{is_plain, AllTokens, plain_line}
 
 abbrev pub not_feed : ℕ → Bool
 not_feed b = not (b == 10)
@@ -17,10 +18,10 @@ pub record Fits (bytes : List ℕ) : Type 0 where
 
 pub is_line : (bs : List ℕ) → list_all not_feed bs ≡ true → IsLine bs
 is_line [] h = All-nil (λ x. x ≢ 10)
-is_line (b ∷ bs) h = let g = both_true (not_feed b) (list_all not_feed bs) h in All-cons (λ x. x ≢ 10) b bs (no b g.0) (is_line bs g.1)
+is_line (b ∷ bs) h = let g = and_parts (not_feed b) (list_all not_feed bs) h in All-cons (λ x. x ≢ 10) b bs (no b g.0) (is_line bs g.1)
   where
     no : (b : ℕ) → not (b == 10) ≡ true → b ≢ 10
-    no b h = let e = not_true (b == 10) h in grind (arith, nat_tests)
+    no b h = let e = not-true (b == 10) h in grind (arith, nat_tests)
 
 pub clean_line : (bs : List ℕ) → IsLine bs → list_all not_feed bs ≡ true
 clean_line [] h = refl

@@ -42,7 +42,8 @@ node-closed circuit.Parallel ns i = ap (λ f. f i) (node-Parallel ns)
 abbrev IsMarked : Node → Type 0
 IsMarked n = (i : ℕ) (rest : List Mark) → mark_lines i (spelled_node n ++ rest) ≡ node_lines n i ++ mark_lines i rest
 
-nodes_marked : (ns : List Node) → Each IsMarked ns → (i : ℕ) (rest : List Mark) → mark_lines i (spelled_nodes ns ++ rest) ≡ nodes_lines i ns ++ mark_lines i rest
+nodes_marked : (ns : List Node) → Each IsMarked ns → (i : ℕ) (rest : List Mark)
+    → mark_lines i (spelled_nodes ns ++ rest) ≡ nodes_lines i ns ++ mark_lines i rest
 nodes_marked [] h i rest = refl
 nodes_marked (n ∷ ns) h i rest =
     ap (mark_lines i) (append_assoc (spelled_node n) (spelled_nodes ns) rest)

@@ -1,18 +1,20 @@
 -- Numbers that are printed are read again.
 use Rattle.std.proofs.Common.{◌≡◌, ◌==◌, ◌&&◌, ℕ, ◌+◌, ◌-◌, ◌*◌, ◌/◌, ◌%◌, ◌^◌, ◌<◌, ◌≤◌, nat_le, Bool, true, false, if◌then◌else◌, List, [], ◌∷◌, ◌++◌, length, suc, ℤ, pos, neg_ℤ, negsuc, int_le, unsigned_abs, Some, None, refl, ap, ◌∙◌, arith, length-append}
+use Rattle.std.proofs.lemmas.Bool.{and_from, and_parts}
 use Rattle.std.specs.Fmt.{decimal, signed_decimal}
 use Rattle.std.specs.List.{list_all}
 use Rattle.std.proofs.lemmas.Bool.Decides.{nat_tests}
 use Rattle.std.proofs.lemmas.Fmt.{decimal_by_steps, length-decimal-le}
 use Rattle.std.proofs.lemmas.Int.{ints}
 use Rattle.std.proofs.lemmas.List.Folds.{list_all-append}
-use Rattle.ladder_tree.specs.Names.{is_digit, is_name}
-use Rattle.ld_line.specs.Numbers.{value_behind, digits, signed, number, in_range, natural_in, integer}
+use Rattle.ladder_tree.specs.Names.{is_name}
+use Rattle.texts.specs.Digits.{is_digit, value_behind, digits}
+use Rattle.ld_line.specs.Numbers.{signed, number, in_range, natural_in, integer}
 use Rattle.ld_line.specs.Operands.{is_character}
 use Rattle.ld_line.specs.Range.{is_integer}
 use Rattle.ld_line.specs.Said.{said_map}
 use Rattle.ld_line.specs.declared.said.Said.TheVariants.{Range, Is}
-use Rattle.ld_print.proofs.TokenLemmas.{both_true, is_plain, IsToken, IsShort}
+use Rattle.ld_print.proofs.TokenLemmas.{is_plain, IsToken, IsShort}
 
 pub record Writes (n : ℕ) (ds : List ℕ) : Type 0 where
   pub some : 0 < length ds
@@ -24,10 +26,7 @@ value-one v [] c = refl
 value-one v (d ∷ ds) c = value-one (10 * v + (d - 48)) ds c
 
 digit_is : (k : ℕ) → k < 10 → is_digit (48 + k) ≡ true
-digit_is k h = two (nat_le 48 (48 + k)) (nat_le (48 + k) 57) (grind (arith, nat_tests)) (grind (arith, nat_tests))
-  where
-    two : (a b : Bool) → a ≡ true → b ≡ true → (a && b) ≡ true
-    two a b e f = rw (e, f) refl
+digit_is k h = and_from (nat_le 48 (48 + k)) (nat_le (48 + k) 57) (grind (arith, nat_tests)) (grind (arith, nat_tests))
 
 one_digit : (n : ℕ) → n < 10 → Writes n ((48 + n) ∷ [])
 one_digit n h = record { some = omega arith; digits = rw (digit_is n h) refl; value = omega arith }
@@ -43,11 +42,11 @@ pub writes : (n : ℕ) → n < 2 ^ 64 → Writes n (decimal n)
 writes n h = decimal_by_steps Writes one_digit one_more n h
 
 plain_digit : (c : ℕ) → is_digit c ≡ true → is_plain c ≡ true
-plain_digit c h = let g = both_true (nat_le 48 c) (nat_le c 57) h in grind (arith, nat_tests)
+plain_digit c h = let g = and_parts (nat_le 48 c) (nat_le c 57) h in grind (arith, nat_tests)
 
 plain_digits : (ds : List ℕ) → list_all is_digit ds ≡ true → list_all is_plain ds ≡ true
 plain_digits [] h = refl
-plain_digits (d ∷ ds) h = let g = both_true (is_digit d) (list_all is_digit ds) h in rw (plain_digit d g.0, plain_digits ds g.1) refl
+plain_digits (d ∷ ds) h = let g = and_parts (is_digit d) (list_all is_digit ds) h in rw (plain_digit d g.0, plain_digits ds g.1) refl
 
 pub decimal_token : (n : ℕ) → n < 2 ^ 64 → IsToken (decimal n)
 decimal_token n h = let w = writes n h in record { some = w.some; plain = plain_digits (decimal n) w.digits }
@@ -62,8 +61,8 @@ digits_of n (c ∷ cs) w = ap (λ b. if b then Some (value_behind 0 (c ∷ cs)) 
 number_of : (n : ℕ) (ds : List ℕ) → Writes n ds → number ds ≡ Some (pos n)
 number_of n [] w = absurd (let some = w.some in omega arith)
 number_of n (c ∷ cs) w =
-    let g = both_true (is_digit c) (list_all is_digit cs) w.digits in
-    let f = both_true (nat_le 48 c) (nat_le c 57) g.0 in
+    let g = and_parts (is_digit c) (list_all is_digit cs) w.digits in
+    let f = and_parts (nat_le 48 c) (nat_le c 57) g.0 in
     let plus : (c == 45) ≡ false = grind (arith, nat_tests) in
     rw plus (ap (signed false) (digits_of n (c ∷ cs) w))
 
@@ -80,10 +79,10 @@ natural_read low high n l h small =
 -- numbers of 16 bits with their signs
 
 pub size_up : (k : ℕ) → is_integer (pos k) ≡ true → k ≤ 32767
-size_up k h = let g = both_true (int_le (neg_ℤ (pos 32768)) (pos k)) (int_le (pos k) (pos 32767)) h in let f = g.1 in grind (arith, ints, nat_tests)
+size_up k h = let g = and_parts (int_le (neg_ℤ (pos 32768)) (pos k)) (int_le (pos k) (pos 32767)) h in let f = g.1 in grind (arith, ints, nat_tests)
 
 pub size_down : (k : ℕ) → is_integer (negsuc k) ≡ true → k ≤ 32767
-size_down k h = let g = both_true (int_le (neg_ℤ (pos 32768)) (negsuc k)) (int_le (negsuc k) (pos 32767)) h in let f = g.0 in grind (arith, ints, nat_tests)
+size_down k h = let g = and_parts (int_le (neg_ℤ (pos 32768)) (negsuc k)) (int_le (negsuc k) (pos 32767)) h in let f = g.0 in grind (arith, ints, nat_tests)
 
 number_signed : (n : ℤ) → is_integer n ≡ true → number (signed_decimal n) ≡ Some n
 number_signed (pos k) h = number_of k (decimal k) (writes k (omega (arith, size_up k h)))
@@ -106,7 +105,7 @@ integer_short (negsuc k) h =
 
 digits_no_name : (n : ℕ) (ds : List ℕ) → Writes n ds → is_name ds ≡ false
 digits_no_name n [] w = refl
-digits_no_name n (c ∷ cs) w = let g = both_true (is_digit c) (list_all is_digit cs) w.digits in rw g.0 refl
+digits_no_name n (c ∷ cs) w = let g = and_parts (is_digit c) (list_all is_digit cs) w.digits in rw g.0 refl
 
 pub integer_no_name : (n : ℤ) → is_integer n ≡ true → is_name (signed_decimal n) ≡ false
 integer_no_name (pos k) h = digits_no_name k (decimal k) (writes k (omega (arith, size_up k h)))
@@ -124,8 +123,8 @@ unquoted c cs h = rw h (by (length (c ∷ cs) == 3))
 digits_no_character : (n : ℕ) (ds : List ℕ) → Writes n ds → is_character ds ≡ false
 digits_no_character n [] w = refl
 digits_no_character n (c ∷ cs) w =
-    let g = both_true (is_digit c) (list_all is_digit cs) w.digits in
-    let f = both_true (nat_le 48 c) (nat_le c 57) g.0 in
+    let g = and_parts (is_digit c) (list_all is_digit cs) w.digits in
+    let f = and_parts (nat_le 48 c) (nat_le c 57) g.0 in
     unquoted c cs (grind (arith, nat_tests))
 
 pub integer_no_character : (n : ℤ) → is_integer n ≡ true → is_character (signed_decimal n) ≡ false

@@ -1,12 +1,14 @@
 -- Names, flags, operands and lists of numbers are printed as tokens that are read again.
 use Rattle.std.proofs.Common.{◌≡◌, ◌&&◌, ℕ, ◌≤◌, nat_le, Bool, true, false, not, if◌then◌else◌, ℤ, List, [], ◌∷◌, length, refl, ap, ◌∙◌, arith}
+use Rattle.std.proofs.lemmas.Bool.{and_parts}
 use Rattle.std.specs.List.{list_all}
 use Rattle.std.proofs.lemmas.Bool.Decides.{nat_tests}
 use Rattle.ladder_tree.specs.declared.element.CoilMode.{CoilMode}
 use Rattle.ladder_tree.specs.declared.element.CoilMode.TheVariants as mode
 use Rattle.ladder_tree.specs.declared.element.Operand.{Operand}
 use Rattle.ladder_tree.specs.declared.element.Operand.TheVariants.{Var, Num}
-use Rattle.ladder_tree.specs.Names.{is_digit, is_name_byte, is_name}
+use Rattle.ladder_tree.specs.Names.{is_name_byte, is_name}
+use Rattle.texts.specs.Digits.{is_digit}
 use Rattle.ld_line.specs.Elements as elements
 use Rattle.ld_line.specs.Operands as read
 use Rattle.ld_line.specs.Range.{is_integer, is_read_operand}
@@ -14,7 +16,7 @@ use Rattle.ld_line.specs.Said.{said_map, both}
 use Rattle.ld_line.specs.declared.said.Said.{Said}
 use Rattle.ld_line.specs.declared.said.Said.TheVariants.{Bad, Is}
 use Rattle.ld_print.specs.Words as words
-use Rattle.ld_print.proofs.TokenLemmas.{both_true, is_plain, IsShort, AllShort}
+use Rattle.ld_print.proofs.TokenLemmas.{is_plain, IsShort, AllShort}
 use Rattle.ld_print.proofs.NumberLemmas.{integer_read, integer_short, integer_no_name, integer_no_character}
 
 -- parts that are said, and what is made of them
@@ -32,13 +34,13 @@ plain_name b h = grind (arith, nat_tests)
 
 plain_names : (bs : List ℕ) → list_all is_name_byte bs ≡ true → list_all is_plain bs ≡ true
 plain_names [] h = refl
-plain_names (b ∷ bs) h = let g = both_true (is_name_byte b) (list_all is_name_byte bs) h in rw (plain_name b g.0, plain_names bs g.1) refl
+plain_names (b ∷ bs) h = let g = and_parts (is_name_byte b) (list_all is_name_byte bs) h in rw (plain_name b g.0, plain_names bs g.1) refl
 
 pub name_short : (n : List ℕ) → is_name n ≡ true → IsShort n
 name_short [] h = absurd cc
 name_short (b ∷ bs) h =
-    let g = both_true (not (is_digit b)) (list_all is_name_byte (b ∷ bs) && nat_le (length (b ∷ bs)) 64) h in
-    let f = both_true (list_all is_name_byte (b ∷ bs)) (nat_le (length (b ∷ bs)) 64) g.1 in
+    let g = and_parts (not (is_digit b)) (list_all is_name_byte (b ∷ bs) && nat_le (length (b ∷ bs)) 64) h in
+    let f = and_parts (list_all is_name_byte (b ∷ bs)) (nat_le (length (b ∷ bs)) 64) g.1 in
     record { token = record { some = omega arith; plain = plain_names (b ∷ bs) f.0 }; short = few (length (b ∷ bs)) f.1 }
   where
     few : (n : ℕ) → nat_le n 64 ≡ true → n ≤ 64
@@ -78,8 +80,8 @@ operand_read (Num n) h = rw (integer_no_name n h, integer_no_character n h) (ap 
 
 pub integers_short : (ns : List ℤ) → list_all is_integer ns ≡ true → AllShort (words.integers ns)
 integers_short [] h = tt
-integers_short (n ∷ ns) h = let g = both_true (is_integer n) (list_all is_integer ns) h in (integer_short n g.0, integers_short ns g.1)
+integers_short (n ∷ ns) h = let g = and_parts (is_integer n) (list_all is_integer ns) h in (integer_short n g.0, integers_short ns g.1)
 
 pub integers_read : (ns : List ℤ) → list_all is_integer ns ≡ true → elements.integers (words.integers ns) ≡ Is ns
 integers_read [] h = refl
-integers_read (n ∷ ns) h = let g = both_true (is_integer n) (list_all is_integer ns) h in made_said (λ p. p.0 ∷ p.1) (integer_read n g.0) (integers_read ns g.1)
+integers_read (n ∷ ns) h = let g = and_parts (is_integer n) (list_all is_integer ns) h in made_said (λ p. p.0 ∷ p.1) (integer_read n g.0) (integers_read ns g.1)

@@ -9,8 +9,9 @@ use Rattle.chip_tables.specs.declared.target.Target.TheVariants.{F628, F877, Meg
 use Rattle.ladder_tree.specs.declared.project.PinLine as pin
 use Rattle.ladder_tree.specs.declared.project.Project.{Project}
 use Rattle.ladder_tree.specs.declared.project.Rung.{Rung}
-use Rattle.ld_base.specs.Lines.{IsLine}
+use Rattle.texts.specs.Lines.{IsLine}
 use Rattle.ld_line.specs.Header.{setting}
+use Rattle.ld_line.specs.Targets.{target_text}
 use Rattle.ld_line.specs.Tokens.{tokens}
 use Rattle.ld_line.specs.Words.{is_target_built}
 use Rattle.ld_line.specs.declared.rungs.Circuit.TheVariants as circuit
@@ -50,7 +51,9 @@ above x t k b = record { site = x; depth = 0; target = t; rungs = 0; elements = 
 
 -- the rungs
 
-rungs_go : (t : Target) → is_target_built t ≡ true → (gs : List Rung) (k b n : ℕ) → b ≤ 500000 → AllFine (place_in site.Between (Some t) k) (map Body (spelled gs)) → Goes (above site.Between (Some t) k b) n (map_lines (print.rungs_lines gs)) (map Body (numbered n (spelled gs)))
+rungs_go : (t : Target) → is_target_built t ≡ true → (gs : List Rung) (k b n : ℕ) → b ≤ 500000
+    → AllFine (place_in site.Between (Some t) k) (map Body (spelled gs))
+    → Goes (above site.Between (Some t) k b) n (map_lines (print.rungs_lines gs)) (map Body (numbered n (spelled gs)))
 rungs_go t built gs k b n few f =
     subst (λ ls. Goes (above site.Between (Some t) k b) n (map_lines ls) (map Body (numbered n (spelled gs)))) (rungs_marked gs)
     (body_goes (spelled gs) (above site.Between (Some t) k b) 0 n t refl built (record { indent = (refl, refl); depth = omega arith; rungs = omega arith; elements = omega arith; openings = omega arith; bytes = omega (arith, few) }) f)
@@ -65,7 +68,8 @@ program_said : (n : ℕ) → said_in site.Header n (codes "PROGRAM") ≡ Is (Hea
 unfolding setting
 program_said n = refl
 
-tail_goes : (t : Target) → is_target_built t ≡ true → (gs : List Rung) (k b n : ℕ) → b ≤ 450000 → AllFine (place_in site.Between (Some t) k) (map Body (spelled gs)) → Goes (above site.Pins (Some t) k b) n (map_lines (tail_lines gs)) (tail_forms n gs)
+tail_goes : (t : Target) → is_target_built t ≡ true → (gs : List Rung) (k b n : ℕ) → b ≤ 450000
+    → AllFine (place_in site.Between (Some t) k) (map Body (spelled gs)) → Goes (above site.Pins (Some t) k b) n (map_lines (tail_lines gs)) (tail_forms n gs)
 tail_goes t built gs k b n few f =
     goes_more (above site.Pins (Some t) k b) (above site.Header (Some t) k (b + 4)) n (codes "END") (Pins pins.End) (map_lines ([] ∷ codes "PROGRAM" ∷ print.rungs_lines gs)) (Header header.Program ∷ map Body (numbered (n + 1 + 1 + 1) (spelled gs)))
     (record { said = refl; short = omega arith; free = λ x. refl; built = refl; chip = refl; shallow = refl; few = refl; room = omega (arith, few) }) refl
@@ -87,7 +91,9 @@ built_interp AnsiC h = absurd cc
 over : (n : ℕ) → n < 4000 → nat_le 4000 n ≡ false
 over n h = grind (arith, nat_tests)
 
-pins_go : (t : Target) → is_target_built t ≡ true → (gs : List Rung) (all : ℕ) → all ≤ 4000 → AllFine (place_in site.Between (Some t) all) (map Body (spelled gs)) → (ls : List pin.PinLine) (k b n : ℕ) → k + length ls ≡ all → b + 101 * length ls ≤ 450000 → AllPinsFit ls
+pins_go : (t : Target) → is_target_built t ≡ true → (gs : List Rung) (all : ℕ) → all ≤ 4000
+    → AllFine (place_in site.Between (Some t) all) (map Body (spelled gs)) → (ls : List pin.PinLine) (k b n : ℕ) → k + length ls ≡ all
+    → b + 101 * length ls ≤ 450000 → AllPinsFit ls
     → (m : ℕ) × Goes (above site.Pins (Some t) k b) n (map_lines (print.pin_lines ls ++ tail_lines gs)) (pin_forms ls ++ tail_forms m gs)
 pins_go t built gs all few f [] k b n e room h =
     let same : all ≡ k = omega (arith, e) in
@@ -112,7 +118,8 @@ pins_go t built gs all few f (l ∷ ls) k b n e room h =
 
 -- the settings
 
-header_goes : (t : Option Target) (b n : ℕ) (bytes : List ℕ) (h : HeaderLine) (q : Place) (ls : List Line) (fs : List Form) → HeaderSaid bytes (Header h) → names_unbuilt (Is (Header h)) ≡ false → is_chipless t (Is (Header h)) ≡ false → b ≤ 6000
+header_goes : (t : Option Target) (b n : ℕ) (bytes : List ℕ) (h : HeaderLine) (q : Place) (ls : List Line) (fs : List Form) → HeaderSaid bytes (Header h)
+    → names_unbuilt (Is (Header h)) ≡ false → is_chipless t (Is (Header h)) ≡ false → b ≤ 6000
     → record (behind_form (above site.Header t 0 b) (Header h)) { bytes = b + (length bytes + 1) } ≡ q → Goes q (n + 1) ls fs → Goes (above site.Header t 0 b) n (line_of bytes ∷ ls) (Header h ∷ fs)
 header_goes t b n bytes h q ls fs s built chip few e rest =
     goes_more (above site.Header t 0 b) q n bytes (Header h) ls fs
@@ -126,10 +133,11 @@ read_forms m p =
     Magic ∷ Header (header.Micro (Some p.target)) ∷ Header (header.Cycle p.cycle) ∷ Header (header.Crystal p.crystal) ∷ Header (header.Baud p.baud) ∷ Header header.Pins
     ∷ (pin_forms p.pins ++ tail_forms m p.rungs)
 
-whole_goes : (p : Project) → Known p → (m : ℕ) × Goes start 1 (map_lines (print.head_lines p ++ (print.pin_lines p.pins ++ tail_lines p.rungs))) (read_forms m p)
+whole_goes : (p : Project) → Known p
+    → (m : ℕ) × Goes start 1 (map_lines (print.head_lines p ++ (print.pin_lines p.pins ++ tail_lines p.rungs))) (read_forms m p)
 whole_goes p k =
     let t : Option Target = Some p.target in
-    let micro : List ℕ = codes "MICRO=" ++ print.target_text p.target in
+    let micro : List ℕ = codes "MICRO=" ++ target_text p.target in
     let cycle : List ℕ = codes "CYCLE=" ++ decimal p.cycle in
     let crystal : List ℕ = codes "CRYSTAL=" ++ decimal p.crystal in
     let baud : List ℕ = codes "BAUD=" ++ decimal p.baud in
@@ -194,7 +202,7 @@ whole_clean : (p : Project) → Known p → AllLines (print.printed_lines p)
 whole_clean p k = (
   is_line (codes "LDmicro0.1") refl,
   (
-    is_line (codes "MICRO=" ++ print.target_text p.target) (micro_said p.target).fits.clean,
+    is_line (codes "MICRO=" ++ target_text p.target) (micro_said p.target).fits.clean,
     (
       is_line (codes "CYCLE=" ++ decimal p.cycle) (cycle_said p.cycle k.cycle).fits.clean,
       (
@@ -230,7 +238,8 @@ pub record ReadAgain (text : List ℕ) (p : Project) : Type 0 where
   pub read : IsReadAs text project
   pub same : SameButLines p project
 
-same_forms : (p : Project) (m : ℕ) (gs : List Rung) → spelled gs ≡ numbered (m + 1 + 1 + 1) (spelled p.rungs) → read_forms m p ≡ spelled_project (Chip p.target ∷ Cycle p.cycle ∷ Crystal p.crystal ∷ Baud p.baud ∷ PinSection p.pins ∷ []) gs
+same_forms : (p : Project) (m : ℕ) (gs : List Rung) → spelled gs ≡ numbered (m + 1 + 1 + 1) (spelled p.rungs)
+    → read_forms m p ≡ spelled_project (Chip p.target ∷ Cycle p.cycle ∷ Crystal p.crystal ∷ Baud p.baud ∷ PinSection p.pins ∷ []) gs
 same_forms p m gs e =
     let front : List Form → List Form = λ l. Magic ∷ Header (header.Micro (Some p.target)) ∷ Header (header.Cycle p.cycle) ∷ Header (header.Crystal p.crystal) ∷ Header (header.Baud p.baud) ∷ Header header.Pins ∷ l in
     let rest : List Form = Header header.Program ∷ map Body (spelled gs) in

@@ -1,35 +1,36 @@
 -- What is printed is no longer than what was read, so a table's line is not too long.
 use Rattle.std.proofs.Common.{◌≡◌, ◌==◌, ◌&&◌, ℕ, zero, suc, ◌+◌, ◌-◌, ◌*◌, ◌/◌, ◌%◌, ◌^◌, ◌<◌, ◌≤◌, nat_le, Bool, true, false, if◌then◌else◌, ℤ, pos, neg_ℤ, negsuc, int_le, unsigned_abs, List, [], ◌∷◌, ◌++◌, length, reverse, codes, Option, Some, None, slice_index_or, refl, sym, ap, subst, ◌∙◌, arith, length-append}
+use Rattle.std.proofs.lemmas.Bool.{and_parts}
 use Rattle.std.specs.Prelude.{filter}
 use Rattle.std.specs.Fmt.{decimal, signed_decimal}
 use Rattle.std.specs.List.{list_all}
-use Rattle.std.specs.Option.{option_or}
 use Rattle.std.specs.Str.{bytes_eq}
 use Rattle.std.proofs.lemmas.Bool.Decides.{nat_tests}
 use Rattle.std.proofs.lemmas.Fmt.{decimal_by_steps, length-decimal-le}
 use Rattle.std.proofs.lemmas.Int.{ints}
 use Rattle.std.proofs.lemmas.List.{length-reverse}
 use Rattle.std.proofs.lemmas.List.Folds.{list_all-append}
-use Rattle.std.proofs.lemmas.Slice.Eq.{bytes_eq-Decides}
-use Rattle.ladder_tree.specs.Names.{is_digit, is_name}
+use Rattle.ladder_tree.specs.Names.{is_name}
+use Rattle.texts.specs.Digits.{is_digit, value_behind, digits}
 use Rattle.ladder_tree.specs.declared.element.LeafKind.TheVariants as kind
 use Rattle.ladder_tree.specs.declared.element.Operand.{Operand}
 use Rattle.ladder_tree.specs.declared.element.Operand.TheVariants.{Var, Num}
-use Rattle.ld_base.specs.Lines.{onto}
+use Rattle.texts.specs.Lines.{onto}
 use Rattle.ld_line.proofs.SaidLemmas.{if_map, if_then, if_weak, if_both}
+use Rattle.ld_line.proofs.TokenLemmas.{length-behind}
+use Rattle.ld_line.proofs.WordLemmas.{spelled_word}
 use Rattle.ld_line.specs.Elements.{counted, table_head, table, integers}
-use Rattle.ld_line.specs.Numbers.{value_behind, digits, signed, number, in_range, natural_in, integer, most_items}
+use Rattle.ld_line.specs.Numbers.{signed, number, in_range, natural_in, integer, most_items}
 use Rattle.ld_line.specs.Operands as read
 use Rattle.ld_line.specs.Range.{is_integer}
 use Rattle.ld_line.specs.Said.{IfIs, said_map, both}
 use Rattle.ld_line.specs.Tokens.{is_blank, is_return, behind, without_returns, between_blanks, is_some_bytes, tokens}
-use Rattle.ld_line.specs.Words.{bit_word, time_word, math_word, compare_word, device_word, word_of}
+use Rattle.ld_line.specs.Words.{word_of}
 use Rattle.ld_line.specs.declared.said.Said.TheVariants.{Bad, Range, Is}
-use Rattle.ld_line.specs.declared.word.Word.{Word}
 use Rattle.ld_line.specs.declared.word.Word.TheVariants as word
 use Rattle.ld_print.specs.Words as words
 use Rattle.ld_print.specs.Words.{behind_spaces}
-use Rattle.ld_print.proofs.TokenLemmas.{both_true, length-behind_spaces}
+use Rattle.ld_print.proofs.TokenLemmas.{length-behind_spaces}
 use Rattle.ld_print.proofs.NumberLemmas.{value-one, size_up, size_down}
 use Rattle.ld_print.proofs.ElementLemmas.{TextFits}
 
@@ -51,11 +52,12 @@ Fewest n ds = (token : List ℕ) → 0 < length token → list_all is_digit toke
 fewest_one : (n : ℕ) → n < 10 → Fewest n ((48 + n) ∷ [])
 fewest_one n h token some d v = omega (arith, some)
 
-front_value : (n : ℕ) (front : List ℕ) (last : ℕ) → 10 ≤ n → is_digit last ≡ true → value_behind 0 (front ++ last ∷ []) ≡ n → (0 < length front) × (value_behind 0 front ≡ n / 10)
+front_value : (n : ℕ) (front : List ℕ) (last : ℕ) → 10 ≤ n → is_digit last ≡ true → value_behind 0 (front ++ last ∷ []) ≡ n
+    → (0 < length front) × (value_behind 0 front ≡ n / 10)
 front_value n front last h d v = (some front whole, omega (arith, whole, few))
   where
     few : last - 48 ≤ 9
-    few = let g = both_true (nat_le 48 last) (nat_le last 57) d in grind (arith, nat_tests)
+    few = let g = and_parts (nat_le 48 last) (nat_le last 57) d in grind (arith, nat_tests)
 
     whole : 10 * value_behind 0 front + (last - 48) ≡ n
     whole = sym (value-one 0 front last) ∙ v
@@ -68,8 +70,8 @@ fewest_more : (n : ℕ) (ds : List ℕ) → 10 ≤ n → Fewest (n / 10) ds → 
 fewest_more n ds h rec [] some d v = absurd (omega (arith, some))
 fewest_more n ds h rec (c ∷ cs) some d v =
     let s = split c cs in
-    let all = both_true (list_all is_digit s.front) (list_all is_digit (s.last ∷ [])) (sym (list_all-append is_digit s.front (s.last ∷ [])) ∙ sym (ap (list_all is_digit) s.is) ∙ d) in
-    let f = front_value n s.front s.last h (both_true (is_digit s.last) true all.1).0 (sym (ap (value_behind 0) s.is) ∙ v) in
+    let all = and_parts (list_all is_digit s.front) (list_all is_digit (s.last ∷ [])) (sym (list_all-append is_digit s.front (s.last ∷ [])) ∙ sym (ap (list_all is_digit) s.is) ∙ d) in
+    let f = front_value n s.front s.last h (and_parts (is_digit s.last) true all.1).0 (sym (ap (value_behind 0) s.is) ∙ v) in
     omega (arith, rec s.front f.0 all.0 f.1, length-append ds ((48 + n % 10) ∷ []), ap length s.is, length-append s.front (s.last ∷ []))
 
 digits_shorter : (token : List ℕ) (n : ℕ) → digits token ≡ Some n → n < 2 ^ 64 → length (decimal n) ≤ length token
@@ -90,7 +92,8 @@ small_integer : (n : ℤ) → is_integer n ≡ true → IsSmall n
 small_integer (pos k) h = omega (arith, size_up k h)
 small_integer (negsuc k) h = omega (arith, size_down k h)
 
-negative_shorter : (token : List ℕ) (n : ℤ) (o : Option ℕ) → digits token ≡ o → signed true o ≡ Some n → IsSmall n → length (signed_decimal n) ≤ suc (length token)
+negative_shorter : (token : List ℕ) (n : ℤ) (o : Option ℕ) → digits token ≡ o → signed true o ≡ Some n → IsSmall n
+    → length (signed_decimal n) ≤ suc (length token)
 negative_shorter token n None e g h = absurd cc
 negative_shorter token n (Some zero) e g h = let same : pos 0 ≡ n = cc in subst (λ z. length (signed_decimal z) ≤ suc (length token)) same (omega (arith, length-decimal-le 1 0 (omega arith) (omega arith) (omega arith)))
 negative_shorter token n (Some (suc k)) e g h =
@@ -125,12 +128,14 @@ natural_shorter : (low high : ℕ) (token : List ℕ) → high < 2 ^ 64 → IfIs
 unfolding natural_in
 natural_shorter low high token h = of (number token) refl
   where
-    up : (n : ℕ) (a b : Bool) → number token ≡ Some (pos n) → int_le (pos n) (pos high) ≡ b → IfIs (said_map unsigned_abs (if a && b then Is (pos n) else Range)) (λ n. length (decimal n) ≤ length token)
+    up : (n : ℕ) (a b : Bool) → number token ≡ Some (pos n) → int_le (pos n) (pos high) ≡ b
+        → IfIs (said_map unsigned_abs (if a && b then Is (pos n) else Range)) (λ n. length (decimal n) ≤ length token)
     up n true true e f = let few : n ≤ high = grind (arith, ints, nat_tests) in number_shorter token (pos n) e (omega (arith, few, h))
     up n true false e f = tt
     up n false b e f = tt
 
-    down : (n : ℕ) (a b : Bool) → int_le (pos low) (negsuc n) ≡ a → IfIs (said_map unsigned_abs (if a && b then Is (negsuc n) else Range)) (λ n. length (decimal n) ≤ length token)
+    down : (n : ℕ) (a b : Bool) → int_le (pos low) (negsuc n) ≡ a
+        → IfIs (said_map unsigned_abs (if a && b then Is (negsuc n) else Range)) (λ n. length (decimal n) ≤ length token)
     down n true b e = absurd (grind (arith, ints))
     down n false b e = tt
 
@@ -151,9 +156,9 @@ name_shorter token = by (is_name token)
 character_shorter : (token : List ℕ) → read.is_character token ≡ true → length (decimal (slice_index_or token 1 0)) ≤ length token
 character_shorter token h =
     let c = slice_index_or token 1 0 in
-    let quoted = both_true (length token == 3) ((slice_index_or token 0 0 == 39 && slice_index_or token 2 0 == 39) && (nat_le 0x21 c && nat_le c 0x7e)) h in
-    let shows = both_true (slice_index_or token 0 0 == 39 && slice_index_or token 2 0 == 39) (nat_le 0x21 c && nat_le c 0x7e) quoted.1 in
-    of (length token) c quoted.0 (both_true (nat_le 0x21 c) (nat_le c 0x7e) shows.1).1
+    let quoted = and_parts (length token == 3) ((slice_index_or token 0 0 == 39 && slice_index_or token 2 0 == 39) && (nat_le 0x21 c && nat_le c 0x7e)) h in
+    let shows = and_parts (slice_index_or token 0 0 == 39 && slice_index_or token 2 0 == 39) (nat_le 0x21 c && nat_le c 0x7e) quoted.1 in
+    of (length token) c quoted.0 (and_parts (nat_le 0x21 c) (nat_le c 0x7e) shows.1).1
   where
     of : (n c : ℕ) → (n == 3) ≡ true → nat_le c 0x7e ≡ true → length (decimal c) ≤ n
     of n c e f =
@@ -165,7 +170,8 @@ operand_shorter : (token : List ℕ) → IfIs (read.operand token) (λ o. length
 unfolding read.operand
 operand_shorter token = by (is_name token) (read.is_character token) refl
   where
-    by : (a b : Bool) → read.is_character token ≡ b → IfIs (if a then Is (Var token) else (if b then Is (Num (pos (slice_index_or token 1 0))) else said_map Num (integer token))) (λ o. length (words.operand_text o) ≤ length token)
+    by : (a b : Bool) → read.is_character token ≡ b
+        → IfIs (if a then Is (Var token) else (if b then Is (Num (pos (slice_index_or token 1 0))) else said_map Num (integer token))) (λ o. length (words.operand_text o) ≤ length token)
     by true b e = omega arith
     by false true e = character_shorter token e
     by false false e = if_map Num (λ o. length (words.operand_text o) ≤ length token) (integer token) (integer_shorter token)
@@ -199,7 +205,8 @@ HowShorter c f p = (length (decimal p.0) ≤ length c) × (length (words.flag p.
 abbrev TailShorter : List ℕ → List ℕ → List (List ℕ) → (ℕ × Bool) × List ℤ → Type 0
 TailShorter c f vs p = HowShorter c f p.0 × (length (behind_spaces (words.integers p.1)) ≤ length (behind_spaces vs))
 
-counted_fits : (d i c f : List ℕ) (vs : List (List ℕ)) (dest : List ℕ) (index : Operand) (count : ℕ) (as_text : Bool) (values : List ℤ) → length (behind_spaces (d ∷ i ∷ c ∷ f ∷ vs)) ≤ 499 → HeadShorter d i (dest, index) → TailShorter c f vs ((count, as_text), values)
+counted_fits : (d i c f : List ℕ) (vs : List (List ℕ)) (dest : List ℕ) (index : Operand) (count : ℕ) (as_text : Bool) (values : List ℤ)
+    → length (behind_spaces (d ∷ i ∷ c ∷ f ∷ vs)) ≤ 499 → HeadShorter d i (dest, index) → TailShorter c f vs ((count, as_text), values)
     → IfIs (counted dest index count as_text values) TextFits
 counted_fits d i c f vs dest index count as_text values few head tail = by (length values == count) refl
   where
@@ -248,7 +255,8 @@ between_length : (bytes : List ℕ) → length (behind_spaces (between_blanks by
 between_length [] = refl
 between_length (b ∷ bs) = by (is_blank b) (between_blanks bs) (between_length bs)
   where
-    by : (x : Bool) (ps : List (List ℕ)) → length (behind_spaces ps) ≡ 1 + length bs → length (behind_spaces (if x then [] ∷ ps else onto b ps)) ≡ 1 + length (b ∷ bs)
+    by : (x : Bool) (ps : List (List ℕ)) → length (behind_spaces ps) ≡ 1 + length bs
+        → length (behind_spaces (if x then [] ∷ ps else onto b ps)) ≡ 1 + length (b ∷ bs)
     by true ps h = omega (arith, h)
     by false [] h = absurd (omega (arith, h))
     by false (p ∷ ps) h = omega (arith, h, length-behind_spaces p ps, length-behind_spaces (b ∷ p) ps)
@@ -257,111 +265,18 @@ fewer_tokens : (test : List ℕ → Bool) (ts : List (List ℕ)) → length (beh
 fewer_tokens test [] = omega arith
 fewer_tokens test (t ∷ ts) = by (test t) (fewer_tokens test ts)
   where
-    by : (b : Bool) → length (behind_spaces (filter test ts)) ≤ length (behind_spaces ts) → length (behind_spaces (if b then t ∷ filter test ts else filter test ts)) ≤ length (behind_spaces (t ∷ ts))
+    by : (b : Bool) → length (behind_spaces (filter test ts)) ≤ length (behind_spaces ts)
+        → length (behind_spaces (if b then t ∷ filter test ts else filter test ts)) ≤ length (behind_spaces (t ∷ ts))
     by true h = omega (arith, h, length-behind_spaces t (filter test ts), length-behind_spaces t ts)
     by false h = omega (arith, h, length-behind_spaces t ts)
-
-behind_length : (test : ℕ → Bool) (bs : List ℕ) → length (behind test bs) ≤ length bs
-behind_length test [] = omega arith
-behind_length test (b ∷ bs) = by (test b) (behind_length test bs)
-  where
-    by : (x : Bool) → length (behind test bs) ≤ length bs → length (if x then behind test bs else b ∷ bs) ≤ length (b ∷ bs)
-    by true h = omega (arith, h)
-    by false h = omega arith
 
 tokens_length : (bytes : List ℕ) → length (behind_spaces (tokens bytes)) ≤ 1 + length bytes
 tokens_length bytes =
     let line = without_returns bytes in
-    omega (arith, fewer_tokens is_some_bytes (between_blanks line), between_length line, length-reverse (behind is_return (reverse bytes)), behind_length is_return (reverse bytes), length-reverse bytes)
-
--- the word of a table is LOOK_UP_TABLE alone
-
-abbrev is_table : Word → Bool
-is_table word.LookUpTable = true
-is_table _ = false
-
-abbrev names_table : Option Word → Bool
-names_table None = false
-names_table (Some w) = is_table w
-
-record NoTable (o : Option Word) : Type 0 where
-  other : names_table o ≡ false
-
-no_word : NoTable None
-no_word = record { other = refl }
-
-not_this : (b : Bool) (w : Word) {o : Option Word} → is_table w ≡ false → NoTable o → NoTable (if b then Some w else o)
-not_this true w h g = record { other = h }
-not_this false w h g = g
-
-bits_no_table : (t : List ℕ) → NoTable (bit_word t)
-bits_no_table t =
-    not_this (bytes_eq t (codes "CONTACTS")) word.Contacts refl
-    (not_this (bytes_eq t (codes "COIL")) word.Coil refl
-    (not_this (bytes_eq t (codes "OSR")) word.Osr refl
-    (not_this (bytes_eq t (codes "OSF")) word.Osf refl
-    (not_this (bytes_eq t (codes "SHORT")) word.Short refl
-    (not_this (bytes_eq t (codes "OPEN")) word.Open refl
-    (not_this (bytes_eq t (codes "COMMENT")) word.Comment refl
-    (not_this (bytes_eq t (codes "MASTER_RELAY")) word.MasterRelay refl
-    (not_this (bytes_eq t (codes "PLACEHOLDER")) word.Placeholder refl no_word))))))))
-
-times_no_table : (t : List ℕ) → NoTable (time_word t)
-times_no_table t =
-    not_this (bytes_eq t (codes "TON")) word.Ton refl
-    (not_this (bytes_eq t (codes "TOF")) word.Tof refl
-    (not_this (bytes_eq t (codes "RTO")) word.Rto refl
-    (not_this (bytes_eq t (codes "CTU")) word.Ctu refl
-    (not_this (bytes_eq t (codes "CTD")) word.Ctd refl
-    (not_this (bytes_eq t (codes "CTC")) word.Ctc refl
-    (not_this (bytes_eq t (codes "RES")) word.Res refl no_word))))))
-
-sums_no_table : (t : List ℕ) → NoTable (math_word t)
-sums_no_table t =
-    not_this (bytes_eq t (codes "MOVE")) word.Move refl
-    (not_this (bytes_eq t (codes "ADD")) word.Add refl
-    (not_this (bytes_eq t (codes "SUB")) word.Sub refl
-    (not_this (bytes_eq t (codes "MUL")) word.Mul refl
-    (not_this (bytes_eq t (codes "DIV")) word.Div refl no_word))))
-
-tests_no_table : (t : List ℕ) → NoTable (compare_word t)
-tests_no_table t =
-    not_this (bytes_eq t (codes "EQU")) word.Equ refl
-    (not_this (bytes_eq t (codes "NEQ")) word.Neq refl
-    (not_this (bytes_eq t (codes "GRT")) word.Grt refl
-    (not_this (bytes_eq t (codes "GEQ")) word.Geq refl
-    (not_this (bytes_eq t (codes "LES")) word.Les refl
-    (not_this (bytes_eq t (codes "LEQ")) word.Leq refl no_word)))))
-
--- a table's word is behind words that are none
-later : (o p : Option Word) → NoTable o → option_or o p ≡ Some word.LookUpTable → p ≡ Some word.LookUpTable
-later None p h e = e
-later (Some w) p h e = let yes : true ≡ false = ap names_table (sym e) ∙ h.other in absurd cc
-
-device_length : (t : List ℕ) (a b : Bool) (o : Option Word) → bytes_eq t (codes "LOOK_UP_TABLE") ≡ b → (if a then Some word.ShiftRegister else (if b then Some word.LookUpTable else o)) ≡ Some word.LookUpTable → NoTable o → length t ≡ 13
-device_length t true b o f g h = absurd cc
-device_length t false true o f g h = ap length ((bytes_eq-Decides t (codes "LOOK_UP_TABLE")).0 f)
-device_length t false false o f g h = let yes : true ≡ false = ap names_table (sym g) ∙ h.other in absurd cc
-
-devices_length : (t : List ℕ) → device_word t ≡ Some word.LookUpTable → length t ≡ 13
-devices_length t e =
-    device_length t (bytes_eq t (codes "SHIFT_REGISTER")) (bytes_eq t (codes "LOOK_UP_TABLE")) _ refl e
-    (not_this (bytes_eq t (codes "READ_ADC")) word.ReadAdc refl
-    (not_this (bytes_eq t (codes "SET_PWM")) word.SetPwm refl
-    (not_this (bytes_eq t (codes "UART_RECV")) word.UartRecv refl
-    (not_this (bytes_eq t (codes "UART_SEND")) word.UartSend refl
-    (not_this (bytes_eq t (codes "PERSIST")) word.Persist refl
-    (not_this (bytes_eq t (codes "FORMATTED_STRING")) word.FormattedString refl
-    (not_this (bytes_eq t (codes "PIECEWISE_LINEAR")) word.PiecewiseLinear refl no_word)))))))
-
-token_length : (t : List ℕ) → word_of t ≡ Some word.LookUpTable → length t ≡ 13
-token_length t e =
-    let tests = option_or (compare_word t) (device_word t) in
-    let sums = option_or (math_word t) tests in
-    let times = option_or (time_word t) sums in
-    devices_length t (later (compare_word t) (device_word t) (tests_no_table t) (later (math_word t) tests (sums_no_table t) (later (time_word t) sums (times_no_table t) (later (bit_word t) times (bits_no_table t) e))))
+    omega (arith, fewer_tokens is_some_bytes (between_blanks line), between_length line, length-reverse (behind is_return (reverse bytes)), length-behind is_return (reverse bytes), length-reverse bytes)
 
 -- what stands behind the word of a table on a line that is not too long
-pub table_room : (bytes token : List ℕ) (ts : List (List ℕ)) → length bytes ≤ 512 → tokens bytes ≡ token ∷ ts → word_of token ≡ Some word.LookUpTable → length (behind_spaces ts) ≤ 499
+pub table_room : (bytes token : List ℕ) (ts : List (List ℕ)) → length bytes ≤ 512 → tokens bytes ≡ token ∷ ts → word_of token ≡ Some word.LookUpTable
+    → length (behind_spaces ts) ≤ 499
 table_room bytes token ts short e w =
-    omega (arith, short, tokens_length bytes, ap (λ x. length (behind_spaces x)) e, length-behind_spaces token ts, token_length token w)
+    omega (arith, short, tokens_length bytes, ap (λ x. length (behind_spaces x)) e, length-behind_spaces token ts, ap length (spelled_word token word.LookUpTable w))

@@ -1,11 +1,13 @@
 -- The tokens of lines that are printed.
-use Rattle.std.proofs.Common.{◌≡◌, ◌≢◌, ◌==◌, ◌&&◌, ℕ, suc, zero, ◌+◌, ◌*◌, ◌<◌, ◌≤◌, Bool, true, false, not, if◌then◌else◌, List, [], ◌∷◌, ◌++◌, length, reverse, refl, sym, ap, ◌∙◌, arith, append-nil, length-append}
+use Rattle.std.proofs.Common.{◌≡◌, ◌≢◌, ◌==◌, ◌&&◌, ℕ, suc, zero, ◌+◌, ◌*◌, ◌<◌, ◌≤◌, nat_le, Bool, true, false, not, if◌then◌else◌, List, [], ◌∷◌, ◌++◌, length, reverse, refl, sym, ap, ◌∙◌, arith, append-nil, length-append}
+use Rattle.std.proofs.lemmas.Bool.{and_parts, not-true}
 use Rattle.std.specs.Prelude.{filter, replicate}
 use Rattle.std.specs.List.{list_all}
 use Rattle.std.proofs.lemmas.Bool.Decides.{nat_tests}
 use Rattle.std.proofs.lemmas.List.{reverse-append, reverse-reverse}
 use Rattle.std.proofs.lemmas.List.Elements.{All-cons, All-nil}
-use Rattle.ld_base.specs.Lines.{onto, IsLine}
+use Rattle.texts.specs.Lines.{onto, IsLine}
+use Rattle.ld_line.proofs.TokenLemmas.{kept}
 use Rattle.ld_line.specs.Tokens.{is_blank, is_return, behind, before, trimmed, between_blanks, is_some_bytes, runs, tokens}
 use Rattle.ld_print.specs.Words.{behind_spaces}
 
@@ -17,51 +19,39 @@ pub record IsToken (t : List ℕ) : Type 0 where
   pub some : 0 < length t
   pub plain : list_all is_plain t ≡ true
 
-pub both_true : (a b : Bool) → (a && b) ≡ true → (a ≡ true) × (b ≡ true)
-both_true true b h = (refl, h)
-both_true false b h = absurd cc
-
-pub not_true : (a : Bool) → not a ≡ true → a ≡ false
-not_true true h = absurd cc
-not_true false h = refl
-
 pub no_blank : (b : ℕ) → is_plain b ≡ true → is_blank b ≡ false
-no_blank b h = not_true (is_blank b) (both_true (not (is_blank b)) (not (is_return b) && not (b == 10)) h).0
+no_blank b h = not-true (is_blank b) (and_parts (not (is_blank b)) (not (is_return b) && not (b == 10)) h).0
 
 pub no_return : (b : ℕ) → is_plain b ≡ true → is_return b ≡ false
-no_return b h = not_true (is_return b) (both_true (not (is_return b)) (not (b == 10)) (both_true (not (is_blank b)) (not (is_return b) && not (b == 10)) h).1).0
+no_return b h = not-true (is_return b) (and_parts (not (is_return b)) (not (b == 10)) (and_parts (not (is_blank b)) (not (is_return b) && not (b == 10)) h).1).0
 
 no_feed : (b : ℕ) → is_plain b ≡ true → b ≢ 10
 no_feed b h =
-    let e = not_true (b == 10) (both_true (not (is_return b)) (not (b == 10)) (both_true (not (is_blank b)) (not (is_return b) && not (b == 10)) h).1).1 in
+    let e = not-true (b == 10) (and_parts (not (is_return b)) (not (b == 10)) (and_parts (not (is_blank b)) (not (is_return b) && not (b == 10)) h).1).1 in
     grind (arith, nat_tests)
+
+pub at_most : (n most : ℕ) → nat_le n most ≡ true → n ≤ most
+at_most n most h = grind (arith, nat_tests)
 
 pub plain_line : (t : List ℕ) → list_all is_plain t ≡ true → IsLine t
 plain_line [] h = All-nil (λ x. x ≢ 10)
-plain_line (x ∷ xs) h = let g = both_true (is_plain x) (list_all is_plain xs) h in All-cons (λ x. x ≢ 10) x xs (no_feed x g.0) (plain_line xs g.1)
+plain_line (x ∷ xs) h = let g = and_parts (is_plain x) (list_all is_plain xs) h in All-cons (λ x. x ≢ 10) x xs (no_feed x g.0) (plain_line xs g.1)
 
 -- tokens
 
 between_word : (t rest : List ℕ) → list_all is_plain t ≡ true → between_blanks (t ++ 32 ∷ rest) ≡ t ∷ between_blanks rest
 between_word [] rest h = refl
 between_word (x ∷ xs) rest h =
-    let g = both_true (is_plain x) (list_all is_plain xs) h in
+    let g = and_parts (is_plain x) (list_all is_plain xs) h in
     ap (λ b. if b then [] ∷ between_blanks (xs ++ 32 ∷ rest) else onto x (between_blanks (xs ++ 32 ∷ rest))) (no_blank x g.0)
     ∙ ap (onto x) (between_word xs rest g.1)
 
 between_last : (t : List ℕ) → list_all is_plain t ≡ true → between_blanks t ≡ t ∷ []
 between_last [] h = refl
 between_last (x ∷ xs) h =
-    let g = both_true (is_plain x) (list_all is_plain xs) h in
+    let g = and_parts (is_plain x) (list_all is_plain xs) h in
     ap (λ b. if b then [] ∷ between_blanks xs else onto x (between_blanks xs)) (no_blank x g.0)
     ∙ ap (onto x) (between_last xs g.1)
-
-kept : (t : List ℕ) (others : List (List ℕ)) → 0 < length t → filter is_some_bytes (t ∷ others) ≡ t ∷ filter is_some_bytes others
-kept [] others h = absurd (omega arith)
-kept (x ∷ xs) others h = rw some refl
-  where
-    some : (suc (length xs) == 0) ≡ false
-    some = grind (arith, nat_tests)
 
 pub runs_word : (t rest : List ℕ) → IsToken t → runs (t ++ 32 ∷ rest) ≡ t ∷ runs rest
 runs_word t rest h = ap (filter is_some_bytes) (between_word t rest h.plain) ∙ kept t (between_blanks rest) h.some
@@ -114,7 +104,7 @@ record Split (test : ℕ → Bool) (xs : List ℕ) : Type 0 where
   fails : test last ≡ false
 
 split : (test : ℕ → Bool) (x : ℕ) (xs : List ℕ) → ends test (x ∷ xs) ≡ true → Split test (x ∷ xs)
-split test x [] h = record { front = []; last = x; is = refl; fails = not_true (test x) h }
+split test x [] h = record { front = []; last = x; is = refl; fails = not-true (test x) h }
 split test x (y ∷ ys) h = let s = split test y ys h in record { front = x ∷ s.front; last = s.last; is = ap (λ l. x ∷ l) s.is; fails = s.fails }
 
 before_split : (test : ℕ → Bool) (xs : List ℕ) → Split test xs → before test xs ≡ xs
@@ -135,14 +125,15 @@ ends-append test (x ∷ z ∷ zs) y ys = ends-append test (z ∷ zs) y ys
 
 pub ends_plain : (test : ℕ → Bool) (xs : List ℕ) → ((b : ℕ) → is_plain b ≡ true → test b ≡ false) → list_all is_plain xs ≡ true → ends test xs ≡ true
 ends_plain test [] fails h = refl
-ends_plain test (x ∷ []) fails h = ap not (fails x (both_true (is_plain x) true h).0)
-ends_plain test (x ∷ y ∷ ys) fails h = ends_plain test (y ∷ ys) fails (both_true (is_plain x) (list_all is_plain (y ∷ ys)) h).1
+ends_plain test (x ∷ []) fails h = ap not (fails x (and_parts (is_plain x) true h).0)
+ends_plain test (x ∷ y ∷ ys) fails h = ends_plain test (y ∷ ys) fails (and_parts (is_plain x) (list_all is_plain (y ∷ ys)) h).1
 
 pub ends_some : (test : ℕ → Bool) (xs t : List ℕ) → 0 < length t → ends test t ≡ true → ends test (xs ++ t) ≡ true
 ends_some test xs [] some h = absurd (omega arith)
 ends_some test xs (y ∷ ys) some h = ends-append test xs y ys ∙ h
 
-ends_tokens : (t : List ℕ) (ts : List (List ℕ)) → IsToken t → AllTokens ts → (0 < length (t ++ behind_spaces ts)) × (ends is_return (t ++ behind_spaces ts) ≡ true)
+ends_tokens : (t : List ℕ) (ts : List (List ℕ)) → IsToken t → AllTokens ts
+    → (0 < length (t ++ behind_spaces ts)) × (ends is_return (t ++ behind_spaces ts) ≡ true)
 ends_tokens t [] h g = rw (append-nil t) (h.some, ends_plain is_return t no_return h.plain)
 ends_tokens t (u ∷ us) h g =
     let rest = ends_tokens u us g.0 g.1 in
@@ -170,7 +161,7 @@ trimmed_token t h =
   where
     by : (t : List ℕ) → 0 < length t → list_all is_plain t ≡ true → behind is_blank t ≡ t
     by [] some h = absurd (omega arith)
-    by (x ∷ xs) some h = behind_plain x xs (both_true (is_plain x) (list_all is_plain xs) h).0
+    by (x ∷ xs) some h = behind_plain x xs (and_parts (is_plain x) (list_all is_plain xs) h).0
 
 pub tokens_token : (t : List ℕ) → IsToken t → tokens t ≡ t ∷ []
 tokens_token t h = ap runs (before_same is_return t (ends_plain is_return t no_return h.plain)) ∙ runs_last t h

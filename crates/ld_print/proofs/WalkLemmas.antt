@@ -22,7 +22,7 @@ use Rattle.ld_text.specs.declared.place.Site.TheVariants as site
 use Rattle.ld_text.specs.Lines.{Line}
 use Rattle.ld_line.specs.Rungs.{rung_tokens_say}
 use Rattle.ld_text.proofs.SaidLemmas.{AllowedAt}
-use Rattle.ld_text.specs.Place.{unless_blank, inside, said_in, said_at, behind_form, behind_mark, behind_said, behind_all}
+use Rattle.ld_text.specs.Place.{unless_blank, inside, said_in, behind_form, behind_said, behind_all}
 use Rattle.ld_text.specs.Place as place
 use Rattle.ld_text.specs.Faults.{is_first, begins_unbuilt, names_unbuilt, is_chipless, is_too_deep, is_one_too_many, fault_of, fault_at, first_fault, or_else, row, first_row}
 use Rattle.ld_text.specs.Text.{unblanked, said_by}
@@ -54,7 +54,8 @@ pub record LineGoes (p : Place) (n : ℕ) (bytes : List ℕ) (f : Form) : Type 0
   pub few : is_one_too_many p (Is f) ≡ false
   pub room : p.bytes + (length bytes + 1) ≤ 8388608
 
-no_row : (a b c d e f g h : Bool) (r s t u v w x y : ProjectFault) → a ≡ false → b ≡ false → c ≡ false → d ≡ false → e ≡ false → f ≡ false → g ≡ false → h ≡ false → first_row (row a r ∷ row b s ∷ row c t ∷ row d u ∷ row e v ∷ row f w ∷ row g x ∷ row h y ∷ []) ≡ None
+no_row : (a b c d e f g h : Bool) (r s t u v w x y : ProjectFault) → a ≡ false → b ≡ false → c ≡ false → d ≡ false → e ≡ false → f ≡ false → g ≡ false
+    → h ≡ false → first_row (row a r ∷ row b s ∷ row c t ∷ row d u ∷ row e v ∷ row f w ∷ row g x ∷ row h y ∷ []) ≡ None
 no_row a b c d e f g h r s t u v w x y ea eb ec ed ee ef eg eh = rw (ea, eb, ec, ed, ee, ef, eg, eh) refl
 
 no_fault : (p : Place) (n : ℕ) (bytes : List ℕ) (f : Form) → LineGoes p n bytes f → fault_at p n (line_of bytes) ≡ None
@@ -74,7 +75,8 @@ no_fault p n bytes f g =
     no true = refl
     no false = refl
 
-    free : (b : Bool) → (b ≡ false → begins_unbuilt p.target (tokens bytes) ≡ false) → (not b && (begins_unbuilt p.target (tokens bytes) || names_unbuilt (Is f))) ≡ false
+    free : (b : Bool) → (b ≡ false → begins_unbuilt p.target (tokens bytes) ≡ false)
+        → (not b && (begins_unbuilt p.target (tokens bytes) || names_unbuilt (Is f))) ≡ false
     free true h = refl
     free false h = ap (λ x. x || names_unbuilt (Is f)) (h refl) ∙ g.built
 
@@ -103,8 +105,10 @@ pub goes_more : (p q : Place) (n : ℕ) (bytes : List ℕ) (f : Form) (ls : List
 goes_more p q n bytes f ls fs g e rest =
     let next = behind_line p n bytes f g ∙ e in
     record {
-      faultless = ap (λ o. or_else o (first_fault (place.behind p n (line_of bytes)) (n + 1) ls)) (no_fault p n bytes f g) ∙ ap (λ x. first_fault x (n + 1) ls) next ∙ rest.faultless;
-      said = ap (λ s. unblanked s (said_by (place.behind p n (line_of bytes)) (n + 1) ls)) g.said ∙ ap (unblanked (Is f)) (ap (λ x. said_by x (n + 1) ls) next ∙ rest.said) ∙ unblanked-shown f fs;
+      faultless =
+          ap (λ o. or_else o (first_fault (place.behind p n (line_of bytes)) (n + 1) ls)) (no_fault p n bytes f g) ∙ ap (λ x. first_fault x (n + 1) ls) next ∙ rest.faultless;
+      said =
+          ap (λ s. unblanked s (said_by (place.behind p n (line_of bytes)) (n + 1) ls)) g.said ∙ ap (unblanked (Is f)) (ap (λ x. said_by x (n + 1) ls) next ∙ rest.said) ∙ unblanked-shown f fs;
       closed = ap (λ x. (behind_all x (n + 1) ls).site) next ∙ rest.closed;
     }
 
@@ -223,11 +227,13 @@ circuit_token : (c : Circuit) → IsToken (circuit_word c) × (length (circuit_w
 circuit_token circuit.Series = (record { some = omega arith; plain = refl }, omega arith)
 circuit_token circuit.Parallel = (record { some = omega arith; plain = refl }, omega arith)
 
-open_says : (n : ℕ) (c : Circuit) (bytes : List ℕ) → tokens bytes ≡ circuit_word c ∷ [] → (said_in site.Inside n bytes ≡ Is (Body (mark.Open c))) × ((o : Option Target) → begins_unbuilt o (tokens bytes) ≡ false)
+open_says : (n : ℕ) (c : Circuit) (bytes : List ℕ) → tokens bytes ≡ circuit_word c ∷ []
+    → (said_in site.Inside n bytes ≡ Is (Body (mark.Open c))) × ((o : Option Target) → begins_unbuilt o (tokens bytes) ≡ false)
 open_says n circuit.Series bytes e = (ap (λ ts. unless_blank ts (inside n (rung_tokens_say ts bytes))) e, λ o. ap (begins_unbuilt o) e)
 open_says n circuit.Parallel bytes e = (ap (λ ts. unless_blank ts (inside n (rung_tokens_say ts bytes))) e, λ o. ap (begins_unbuilt o) e)
 
-open_steps : (p : Place) (i n : ℕ) (t : Target) (c : Circuit) → p.target ≡ Some t → Bounds p i → Fine (unsized p) (Body (mark.Open c)) → Steps p i n t (mark.Open c)
+open_steps : (p : Place) (i n : ℕ) (t : Target) (c : Circuit) → p.target ≡ Some t → Bounds p i → Fine (unsized p) (Body (mark.Open c))
+    → Steps p i n t (mark.Open c)
 open_steps p i n t c g b f =
     let e = at_open p.site c f.allowed in
     let at : IndentAt site.Inside p.depth i = subst (λ x. IndentAt x p.depth i) e b.indent in
@@ -263,7 +269,8 @@ end_steps : (p : Place) (i n : ℕ) (t : Target) → p.target ≡ Some t → Bou
 end_steps p i n t g b f =
     record {
       line = record {
-        said = ap (λ x. said_in x n (indented (i - 4) (codes "END"))) e ∙ ap (λ ts. unless_blank ts (inside n (rung_tokens_say ts (indented (i - 4) (codes "END"))))) w.tokens;
+        said =
+            ap (λ x. said_in x n (indented (i - 4) (codes "END"))) e ∙ ap (λ ts. unless_blank ts (inside n (rung_tokens_say ts (indented (i - 4) (codes "END"))))) w.tokens;
         short = omega (arith, w.short, at, b.depth);
         free = λ x. ap (begins_unbuilt p.target) w.tokens;
         built = refl;
@@ -306,7 +313,8 @@ end_steps p i n t g b f =
     bounds true h = let d = none p.depth h in record { indent = (omega (arith, at, d), d); depth = b.depth; rungs = b.rungs; elements = b.elements; openings = b.openings; bytes = sized }
     bounds false h = let d = some p.depth h in record { indent = subst (λ x. IndentAt x (p.depth - 1) (i - 4)) (sym e) (omega (arith, at, d)); depth = omega (arith, b.depth); rungs = b.rungs; elements = b.elements; openings = b.openings; bytes = sized }
 
-element_steps : (p : Place) (i n : ℕ) (t : Target) (l : leaf.Leaf) → p.target ≡ Some t → is_target_built t ≡ true → Bounds p i → Fine (unsized p) (Body (mark.Element l)) → Steps p i n t (mark.Element l)
+element_steps : (p : Place) (i n : ℕ) (t : Target) (l : leaf.Leaf) → p.target ≡ Some t → is_target_built t ≡ true → Bounds p i
+    → Fine (unsized p) (Body (mark.Element l)) → Steps p i n t (mark.Element l)
 element_steps p i n t l g built b f =
     let e = at_element p.site l f.allowed in
     let few = below 4000 p.elements f.few in
@@ -316,7 +324,8 @@ element_steps p i n t l g built b f =
       line = record {
         said = ap (λ x. said_in x n (indented i (element_words l.kind))) e ∙ ap (said_in site.Inside n) d.is ∙ s.said n;
         short = d.short;
-        free = λ x. ap (begins_unbuilt p.target) (ap tokens d.is) ∙ ap (λ o. begins_unbuilt o (tokens (replicate d.count 32 ++ element_words l.kind))) g ∙ s.built t built;
+        free =
+            λ x. ap (begins_unbuilt p.target) (ap tokens d.is) ∙ ap (λ o. begins_unbuilt o (tokens (replicate d.count 32 ++ element_words l.kind))) g ∙ s.built t built;
         built = refl;
         chip = ap (λ o. is_chipless o (Is (Body (mark.Element (record { line = n; kind = l.kind }))))) g;
         shallow = refl;
@@ -334,7 +343,8 @@ steps p i n t (mark.Open c) g built b f = open_steps p i n t c g b f
 steps p i n t mark.End g built b f = end_steps p i n t g b f
 steps p i n t (mark.Element l) g built b f = element_steps p i n t l g built b f
 
-pub body_goes : (ms : List Mark) (p : Place) (i n : ℕ) (t : Target) → p.target ≡ Some t → is_target_built t ≡ true → Bounds p i → AllFine (unsized p) (map Body ms) → Goes p n (map_lines (mark_lines i ms)) (map Body (numbered n ms))
+pub body_goes : (ms : List Mark) (p : Place) (i n : ℕ) (t : Target) → p.target ≡ Some t → is_target_built t ≡ true → Bounds p i
+    → AllFine (unsized p) (map Body ms) → Goes p n (map_lines (mark_lines i ms)) (map Body (numbered n ms))
 body_goes [] p i n t g built b f = record { faultless = refl; said = refl; closed = f }
 body_goes (m ∷ ms) p i n t g built b f =
     let s = steps p i n t m g built b f.0 in

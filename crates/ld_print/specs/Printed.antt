@@ -1,28 +1,20 @@
 -- The text that a project is printed as.
 use Rattle.std.specs.Prelude.{ℕ, ◌+◌, nat_le, List, [], ◌∷◌, ◌++◌, map, length, codes, replicate, if◌then◌else◌}
 use Rattle.std.specs.Fmt.{decimal}
-use Rattle.chip_tables.specs.declared.target.Target.{Target}
-use Rattle.chip_tables.specs.declared.target.Target.TheVariants.{F628, F877, Mega16, Interp, AnsiC}
 use Rattle.ladder_tree.specs.declared.project.Node.{Node}
 use Rattle.ladder_tree.specs.declared.project.Node.TheOpen.{Node-F}
 use Rattle.ladder_tree.specs.declared.project.Node.TheFolds.{fold-Node}
 use Rattle.ladder_tree.specs.declared.project.PinLine as pin
 use Rattle.ladder_tree.specs.declared.project.Project.{Project}
 use Rattle.ladder_tree.specs.declared.project.Rung.{Rung}
-use Rattle.ld_base.specs.Lines.{joined}
+use Rattle.ld_line.specs.Targets.{target_text}
+use Rattle.texts.specs.Lines.{joined}
+use Rattle.texts.specs.declared.limits.TheConstants.{LINE_BYTES}
 use Rattle.ld_print.specs.Words.{element_words}
-use Rattle.ld_text.specs.Faults.{most_line}
-
-abbrev pub target_text : Target → List ℕ
-target_text F628 = codes "Microchip PIC16F628 18-PDIP or 18-SOIC"
-target_text F877 = codes "Microchip PIC16F877 40-PDIP"
-target_text Mega16 = codes "Atmel AVR ATmega16 40-PDIP"
-target_text Interp = codes "Interpretable Byte Code"
-target_text AnsiC = codes "ANSI C Code"
 
 -- Spaces (32) in front of a line, but none where the line would be too long with them.
 abbrev pub indented : ℕ → List ℕ → List ℕ
-indented indent words = if nat_le (indent + length words) most_line then replicate indent 32 ++ words else words
+indented indent words = if nat_le (indent + length words) LINE_BYTES then replicate indent 32 ++ words else words
 
 -- name at number, behind four spaces
 abbrev pub pin_line : pin.PinLine → List ℕ

@@ -15,56 +15,60 @@ use Rattle.ladder_tree.specs.declared.element.LeafKind.{LeafKind}
 use Rattle.ladder_tree.specs.declared.element.LeafKind.TheVariants.{Contacts, Coil, Osr, Osf, Short, Open, MasterRelay, Placeholder, Comment, Timer, Counter, Reset, Move, Math, Compare, Shift, Table, ReadAdc, SetPwm, Recv, Send, Persist, Linear, Formatted}
 use Rattle.ladder_tree.specs.declared.element.Operand.{Operand}
 use Rattle.ladder_tree.specs.declared.element.Operand.TheVariants.{Var, Num}
+use Rattle.ld_line.specs.Words.{spelling}
+use Rattle.ld_line.specs.declared.word.Word.{Word}
+use Rattle.ld_line.specs.declared.word.Word.TheVariants as word
 
-abbrev pub timer_word : TimerHow → List ℕ
-timer_word timer.Ton = codes "TON"
-timer_word timer.Tof = codes "TOF"
-timer_word timer.Rto = codes "RTO"
+abbrev pub timer_word : TimerHow → Word
+timer_word timer.Ton = word.Ton
+timer_word timer.Tof = word.Tof
+timer_word timer.Rto = word.Rto
 
-abbrev pub counter_word : CounterHow → List ℕ
-counter_word counter.Ctu = codes "CTU"
-counter_word counter.Ctd = codes "CTD"
-counter_word counter.Ctc = codes "CTC"
+abbrev pub counter_word : CounterHow → Word
+counter_word counter.Ctu = word.Ctu
+counter_word counter.Ctd = word.Ctd
+counter_word counter.Ctc = word.Ctc
 
-abbrev pub math_word : MathHow → List ℕ
-math_word sum.Add = codes "ADD"
-math_word sum.Sub = codes "SUB"
-math_word sum.Mul = codes "MUL"
-math_word sum.Div = codes "DIV"
+abbrev pub math_word : MathHow → Word
+math_word sum.Add = word.Add
+math_word sum.Sub = word.Sub
+math_word sum.Mul = word.Mul
+math_word sum.Div = word.Div
 
-abbrev pub compare_word : CompareHow → List ℕ
-compare_word test.Equ = codes "EQU"
-compare_word test.Neq = codes "NEQ"
-compare_word test.Grt = codes "GRT"
-compare_word test.Geq = codes "GEQ"
-compare_word test.Les = codes "LES"
-compare_word test.Leq = codes "LEQ"
+abbrev pub compare_word : CompareHow → Word
+compare_word test.Equ = word.Equ
+compare_word test.Neq = word.Neq
+compare_word test.Grt = word.Grt
+compare_word test.Geq = word.Geq
+compare_word test.Les = word.Les
+compare_word test.Leq = word.Leq
 
-abbrev pub word : LeafKind → List ℕ
-word (Contacts name neg) = codes "CONTACTS"
-word (Coil name mode) = codes "COIL"
-word Osr = codes "OSR"
-word Osf = codes "OSF"
-word Short = codes "SHORT"
-word Open = codes "OPEN"
-word MasterRelay = codes "MASTER_RELAY"
-word Placeholder = codes "PLACEHOLDER"
-word (Comment text) = codes "COMMENT"
-word (Timer how name delay) = timer_word how
-word (Counter how name max) = counter_word how
-word (Reset name) = codes "RES"
-word (Move dest src) = codes "MOVE"
-word (Math how dest a b) = math_word how
-word (Compare how a b) = compare_word how
-word (Shift name places) = codes "SHIFT_REGISTER"
-word (Table dest index as_text values) = codes "LOOK_UP_TABLE"
-word (ReadAdc name) = codes "READ_ADC"
-word (SetPwm name hz) = codes "SET_PWM"
-word (Recv name) = codes "UART_RECV"
-word (Send name) = codes "UART_SEND"
-word (Persist name) = codes "PERSIST"
-word (Linear dest index points) = codes "PIECEWISE_LINEAR"
-word (Formatted name text) = codes "FORMATTED_STRING"
+-- the word that an element's line begins with
+abbrev pub word_for : LeafKind → Word
+word_for (Contacts name neg) = word.Contacts
+word_for (Coil name mode) = word.Coil
+word_for Osr = word.Osr
+word_for Osf = word.Osf
+word_for Short = word.Short
+word_for Open = word.Open
+word_for MasterRelay = word.MasterRelay
+word_for Placeholder = word.Placeholder
+word_for (Comment text) = word.Comment
+word_for (Timer how name delay) = timer_word how
+word_for (Counter how name max) = counter_word how
+word_for (Reset name) = word.Res
+word_for (Move dest src) = word.Move
+word_for (Math how dest a b) = math_word how
+word_for (Compare how a b) = compare_word how
+word_for (Shift name places) = word.ShiftRegister
+word_for (Table dest index as_text values) = word.LookUpTable
+word_for (ReadAdc name) = word.ReadAdc
+word_for (SetPwm name hz) = word.SetPwm
+word_for (Recv name) = word.UartRecv
+word_for (Send name) = word.UartSend
+word_for (Persist name) = word.Persist
+word_for (Linear dest index points) = word.PiecewiseLinear
+word_for (Formatted name text) = word.FormattedString
 
 abbrev pub flag : Bool → List ℕ
 flag false = codes "0"
@@ -122,4 +126,4 @@ behind_spaces [] = []
 behind_spaces (t ∷ ts) = 32 ∷ t ++ behind_spaces ts
 
 abbrev pub element_words : LeafKind → List ℕ
-element_words k = word k ++ behind_spaces (tokens_behind k)
+element_words k = spelling (word_for k) ++ behind_spaces (tokens_behind k)

@@ -2,86 +2,87 @@
 
 ghost use Rattle.std.specs.Prelude.{◌≡◌, ◌/◌, [], ◌∷◌, ◌++◌, OnOk, map, length};
 ghost use Rattle.std.specs.Fmt.{decimal, signed_decimal};
-ghost use Rattle.ld_print.specs.Words.{timer_word, counter_word, math_word, compare_word, word, flag, mode_flags, operand_text, comment_tokens, integers, tokens_behind, behind_spaces, element_words};
+ghost use Rattle.ld_print.specs.Words.{timer_word, counter_word, math_word, compare_word, word_for, flag, mode_flags, operand_text, comment_tokens, integers, tokens_behind, behind_spaces, element_words};
 
 use ladder_tree::element::{
     CoilMode, CompareHow, CounterHow, LeafKind, MathHow, Name, Operand, TimerHow,
 };
+use ld_line::word::Word;
 use std::alloc::{AllocError, Global};
 
-fn timer_word(how: TimerHow) -> &'static str
-    ensures { result.now ≡ timer_word how }
+fn timer_word(how: TimerHow) -> Word
+    ensures { result ≡ timer_word how }
 {
     match how {
-        TimerHow::Ton => "TON",
-        TimerHow::Tof => "TOF",
-        TimerHow::Rto => "RTO",
+        TimerHow::Ton => Word::Ton,
+        TimerHow::Tof => Word::Tof,
+        TimerHow::Rto => Word::Rto,
     }
 }
 
-fn counter_word(how: CounterHow) -> &'static str
-    ensures { result.now ≡ counter_word how }
+fn counter_word(how: CounterHow) -> Word
+    ensures { result ≡ counter_word how }
 {
     match how {
-        CounterHow::Ctu => "CTU",
-        CounterHow::Ctd => "CTD",
-        CounterHow::Ctc => "CTC",
+        CounterHow::Ctu => Word::Ctu,
+        CounterHow::Ctd => Word::Ctd,
+        CounterHow::Ctc => Word::Ctc,
     }
 }
 
-fn math_word(how: MathHow) -> &'static str
-    ensures { result.now ≡ math_word how }
+fn math_word(how: MathHow) -> Word
+    ensures { result ≡ math_word how }
 {
     match how {
-        MathHow::Add => "ADD",
-        MathHow::Sub => "SUB",
-        MathHow::Mul => "MUL",
-        MathHow::Div => "DIV",
+        MathHow::Add => Word::Add,
+        MathHow::Sub => Word::Sub,
+        MathHow::Mul => Word::Mul,
+        MathHow::Div => Word::Div,
     }
 }
 
-fn compare_word(how: CompareHow) -> &'static str
-    ensures { result.now ≡ compare_word how }
+fn compare_word(how: CompareHow) -> Word
+    ensures { result ≡ compare_word how }
 {
     match how {
-        CompareHow::Equ => "EQU",
-        CompareHow::Neq => "NEQ",
-        CompareHow::Grt => "GRT",
-        CompareHow::Geq => "GEQ",
-        CompareHow::Les => "LES",
-        CompareHow::Leq => "LEQ",
+        CompareHow::Equ => Word::Equ,
+        CompareHow::Neq => Word::Neq,
+        CompareHow::Grt => Word::Grt,
+        CompareHow::Geq => Word::Geq,
+        CompareHow::Les => Word::Les,
+        CompareHow::Leq => Word::Leq,
     }
 }
 
 /// The word that an element's line begins with.
-fn word(kind: &LeafKind) -> &'static str
-    ensures { result.now ≡ word kind.now }
+fn word_for(kind: &LeafKind) -> Word
+    ensures { result ≡ word_for kind.now }
 {
     match kind {
-        LeafKind::Contacts { .. } => "CONTACTS",
-        LeafKind::Coil { .. } => "COIL",
-        LeafKind::Osr => "OSR",
-        LeafKind::Osf => "OSF",
-        LeafKind::Short => "SHORT",
-        LeafKind::Open => "OPEN",
-        LeafKind::MasterRelay => "MASTER_RELAY",
-        LeafKind::Placeholder => "PLACEHOLDER",
-        LeafKind::Comment { .. } => "COMMENT",
+        LeafKind::Contacts { .. } => Word::Contacts,
+        LeafKind::Coil { .. } => Word::Coil,
+        LeafKind::Osr => Word::Osr,
+        LeafKind::Osf => Word::Osf,
+        LeafKind::Short => Word::Short,
+        LeafKind::Open => Word::Open,
+        LeafKind::MasterRelay => Word::MasterRelay,
+        LeafKind::Placeholder => Word::Placeholder,
+        LeafKind::Comment { .. } => Word::Comment,
         LeafKind::Timer { how, .. } => timer_word(*how),
         LeafKind::Counter { how, .. } => counter_word(*how),
-        LeafKind::Reset { .. } => "RES",
-        LeafKind::Move { .. } => "MOVE",
+        LeafKind::Reset { .. } => Word::Res,
+        LeafKind::Move { .. } => Word::Move,
         LeafKind::Math { how, .. } => math_word(*how),
         LeafKind::Compare { how, .. } => compare_word(*how),
-        LeafKind::Shift { .. } => "SHIFT_REGISTER",
-        LeafKind::Table { .. } => "LOOK_UP_TABLE",
-        LeafKind::ReadAdc { .. } => "READ_ADC",
-        LeafKind::SetPwm { .. } => "SET_PWM",
-        LeafKind::Recv { .. } => "UART_RECV",
-        LeafKind::Send { .. } => "UART_SEND",
-        LeafKind::Persist { .. } => "PERSIST",
-        LeafKind::Linear { .. } => "PIECEWISE_LINEAR",
-        LeafKind::Formatted { .. } => "FORMATTED_STRING",
+        LeafKind::Shift { .. } => Word::ShiftRegister,
+        LeafKind::Table { .. } => Word::LookUpTable,
+        LeafKind::ReadAdc { .. } => Word::ReadAdc,
+        LeafKind::SetPwm { .. } => Word::SetPwm,
+        LeafKind::Recv { .. } => Word::UartRecv,
+        LeafKind::Send { .. } => Word::UartSend,
+        LeafKind::Persist { .. } => Word::Persist,
+        LeafKind::Linear { .. } => Word::PiecewiseLinear,
+        LeafKind::Formatted { .. } => Word::FormattedString,
     }
 }
 
@@ -331,6 +332,6 @@ fn push_behind(alloc: Global, line: &mut Vec<u8>, kind: &LeafKind) -> Result<(),
 pub fn push_element(alloc: Global, line: &mut Vec<u8>, kind: &LeafKind) -> Result<(), AllocError>
     ensures { OnOk result (line.new.items ≡ line.old.items ++ element_words kind.now) }
 {
-    line.extend_from_slice(word(kind).as_bytes())?;
+    line.extend_from_slice(word_for(kind).spelling().as_bytes())?;
     push_behind(alloc, line, kind)
 }

@@ -1,36 +1,19 @@
 //! Printing a project.
 
-ghost use Rattle.std.specs.Prelude.{◌≡◌, ◌+◌, ◌≤◌, ◌∷◌, [], ◌++◌, OnOk, IfOk, min, map, codes, replicate};
-ghost use Rattle.ld_base.specs.Lines.{joined};
-ghost use Rattle.ld_print.specs.Printed.{target_text, indented, pin_line, pin_lines, node_lines, nodes_lines, rung_lines, rungs_lines, head_lines, printed};
+ghost use Rattle.std.specs.Prelude.{◌≡◌, ◌+◌, ◌∷◌, [], ◌++◌, OnOk, IfOk, min, codes, replicate};
+ghost use Rattle.texts.specs.Lines.{joined};
+ghost use Rattle.ld_print.specs.Printed.{indented, pin_line, pin_lines, node_lines, nodes_lines, rung_lines, rungs_lines, head_lines, printed};
 
 use crate::words::push_element;
-use chip_tables::Target;
 use ladder_tree::project::{Node, PinLine, Project, Rung};
 use ld_base::list::List;
+use ld_line::target::target_text;
 use std::alloc::{AllocError, Global};
-
-/// Bytes of a text.
-pub type Text = List<u8>;
-
-/// How many bytes a line may have, without its line feed.
-const LINE_LIMIT: usize = 512;
+use texts::Text;
+use texts::limits::LINE_BYTES;
 
 /// How many spaces each SERIES, PARALLEL and rung puts in front of the lines in it.
 const STEP: usize = 4;
-
-/// The text behind `MICRO=`.
-fn target_text(target: Target) -> &'static str
-    ensures { result.now ≡ target_text target }
-{
-    match target {
-        Target::F628 => "Microchip PIC16F628 18-PDIP or 18-SOIC",
-        Target::F877 => "Microchip PIC16F877 40-PDIP",
-        Target::Mega16 => "Atmel AVR ATmega16 40-PDIP",
-        Target::Interp => "Interpretable Byte Code",
-        Target::AnsiC => "ANSI C Code",
-    }
-}
 
 /// Appends spaces.
 fn push_spaces(text: &mut Vec<u8>, count: usize) -> Result<(), AllocError>
@@ -46,7 +29,7 @@ fn push_spaces(text: &mut Vec<u8>, count: usize) -> Result<(), AllocError>
 fn push_line(text: &mut Vec<u8>, indent: usize, words: &[u8]) -> Result<(), AllocError>
     ensures { OnOk result (text.new.items ≡ text.old.items ++ joined (indented indent words.now ∷ [])) }
 {
-    if indent <= LINE_LIMIT && words.len() <= LINE_LIMIT - indent {
+    if indent <= LINE_BYTES && words.len() <= LINE_BYTES - indent {
         push_spaces(text, indent)?;
     }
     text.extend_from_slice(words)?;
@@ -58,7 +41,7 @@ fn push_line(text: &mut Vec<u8>, indent: usize, words: &[u8]) -> Result<(), Allo
 fn deeper(indent: usize) -> usize
     ensures { min 513 result ≡ min 513 (indent + 4) }
 {
-    if indent > LINE_LIMIT {
+    if indent > LINE_BYTES {
         return indent;
     }
     indent + STEP

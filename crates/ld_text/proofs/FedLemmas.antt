@@ -17,12 +17,14 @@ fed_append m [] ys = refl
 fed_append m (x ∷ xs) ys = fed_append (fed_byte m x) xs ys
 
 -- a byte that is refused refuses the whole piece
-pub stopped_at : (start m : Mind) (piece : List ℕ) (i : ℕ) (e : TextError) → fed m (drop i piece) ≡ fed start piece → i < length piece → IsRefused (fed_byte m (get_or piece i 0)) e → IsRefused (fed start piece) e
+pub stopped_at : (start m : Mind) (piece : List ℕ) (i : ℕ) (e : TextError) → fed m (drop i piece) ≡ fed start piece → i < length piece
+    → IsRefused (fed_byte m (get_or piece i 0)) e → IsRefused (fed start piece) e
 stopped_at start m piece i (error.Memory a) h g r = tt
 stopped_at start m piece i (error.Refused f) h g r =
     sym h ∙ ap (fed m) (drop-cons piece i 0 g) ∙ ap (λ x. fed x (drop (suc i) piece)) r ∙ fed_refused f (drop (suc i) piece)
 
-pub fed_state : (result : Result Cursor TextError) (m : Mind) (piece : List ℕ) → IfOk result (λ c. mind_of c ≡ fed m piece) → IfErr result (IsRefused (fed m piece)) → (mind_at (state_behind result) ≡ Some (fed m piece)) ⊎ (state_behind result ≡ state.Exhausted)
+pub fed_state : (result : Result Cursor TextError) (m : Mind) (piece : List ℕ) → IfOk result (λ c. mind_of c ≡ fed m piece)
+    → IfErr result (IsRefused (fed m piece)) → (mind_at (state_behind result) ≡ Some (fed m piece)) ⊎ (state_behind result ≡ state.Exhausted)
 fed_state (Ok c) m piece reads refused = inl (ap Some reads)
 fed_state (Err (error.Refused f)) m piece reads refused = inl (ap Some (sym refused))
 fed_state (Err (error.Memory e)) m piece reads refused = inr refl

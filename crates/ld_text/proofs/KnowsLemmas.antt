@@ -1,23 +1,24 @@
 -- What a reader has read spells what the lines said, and keeps the limits.
-use Rattle.std.proofs.Common.{◌≡◌, ℕ, ◌+◌, ◌-◌, ◌≤◌, Bool, true, false, not, cond, eqb, ◌&&◌, ◌||◌, List, [], ◌∷◌, ◌++◌, length, map, Option, Some, None, is_some, refl, sym, ap, subst, ◌∙◌, arith, append_assoc, append-nil, length-append, lit≤}
+use Rattle.std.proofs.Common.{◌≡◌, ℕ, ◌+◌, ◌-◌, ◌≤◌, Bool, true, false, not, cond, eqb, nat_le, ◌&&◌, ◌||◌, List, [], ◌∷◌, ◌++◌, length, map, Option, Some, None, is_some, refl, sym, ap, subst, ◌∙◌, arith, append_assoc, append-nil, length-append, lit≤}
 use Rattle.std.specs.List.{list_all}
 use Rattle.std.proofs.lemmas.List.{map-append}
 use Rattle.std.proofs.lemmas.List.Folds.{list_all-append}
 use Rattle.std.proofs.lemmas.Bool.Decides.{nat_tests}
 use Rattle.chip_tables.specs.declared.target.Target.{Target}
 use Rattle.ladder_tree.specs.declared.element.Leaf as leaf
+use Rattle.ladder_tree.specs.declared.limits.TheConstants.{RUNGS, ELEMENTS, OPENINGS, PIN_LINES}
 use Rattle.ladder_tree.specs.declared.project.Node.{Node}
 use Rattle.ladder_tree.specs.declared.project.PinLine as pin
 use Rattle.ladder_tree.specs.declared.project.Rung.{Rung}
 use Rattle.ld_line.specs.Numbers.{most_setting}
-use Rattle.ld_line.specs.Range.{is_read_kind, is_read_setting}
+use Rattle.ld_line.specs.Range.{is_read_kind, is_read_pin}
 use Rattle.ld_line.specs.Tokens.{tokens}
 use Rattle.ld_line.specs.Words.{is_target_built}
 use Rattle.ld_line.specs.declared.header.HeaderLine.{HeaderLine}
 use Rattle.ld_line.specs.declared.header.HeaderLine.TheVariants as header
 use Rattle.ld_line.specs.declared.pins.PinsLine.TheVariants as pins
 use Rattle.ld_line.specs.declared.said.Said.TheVariants.{Is}
-use Rattle.ld_line.proofs.RangeLemmas.{in_their_ranges, settings_in_range}
+use Rattle.ld_line.proofs.RangeLemmas.{in_their_ranges, pins_in_range, settings_in_range}
 use Rattle.ld_text.specs.declared.draft.Frame.{Frame}
 use Rattle.ld_text.specs.declared.draft.Settings.{Settings}
 use Rattle.ld_text.specs.declared.form.Mark.{Mark}
@@ -28,14 +29,14 @@ use Rattle.ld_text.specs.declared.place.Place.{Place}
 use Rattle.ld_text.specs.declared.place.Site.{Site}
 use Rattle.ld_text.specs.declared.place.Site.TheVariants as site
 use Rattle.ld_text.specs.Lines.{Line, size_of}
-use Rattle.ld_text.specs.Place.{said_in, behind, behind_said, behind_mark}
+use Rattle.ld_text.specs.Place.{said_in, behind, behind_said, behind_header, behind_mark}
 use Rattle.ld_text.specs.Faults.{begins_unbuilt, is_chipless, is_first, fault_of}
 use Rattle.ld_text.specs.Spelling.{Item, Chip, Cycle, Crystal, Baud, Compiled, PinSection, joined, pin_forms, spelled_item, spelled_items, defaults, with_item, with_items}
 use Rattle.ld_text.specs.Text.{unblanked, said_by}
 use Rattle.ld_text.specs.Reading.{Tree, Closed, Building, ended, grown, with_form, settings_behind, RoomFor, Standing, first, standing_behind, Taken, Goes, Stops, taken}
 use Rattle.ld_text.proofs.TakenLemmas.{Passes, Went, goes, passes, room}
 use Rattle.ld_text.proofs.TreeGrowth.{so_far, Suits, so_far-grown, IsShallow, shallow_grown, depth_at, MayOpen, leaves_of, opens, begins, leaves_of-append, opens-append, begins-append}
-use Rattle.ld_text.proofs.SaidLemmas.{AllowedAt, allowed, header_said, element_worded, IsBuilt}
+use Rattle.ld_text.proofs.SaidLemmas.{AllowedAt, allowed, header_said, pins_said, element_worded, IsBuilt}
 use Rattle.ld_text.proofs.RunLemmas.{then, run}
 
 -- an element that lines can say
@@ -51,11 +52,11 @@ IsRead mark.End = Unit {0}
 -- the place counts the lines of the tree
 pub record Counts (p : Place) (t : Tree) : Type 0 where
   pub rungs : begins (so_far t) ≡ p.rungs
-  pub few_rungs : p.rungs ≤ 500
+  pub few_rungs : p.rungs ≤ RUNGS
   pub elements : length (leaves_of (so_far t)) ≡ p.elements
-  pub few_elements : p.elements ≤ 4000
+  pub few_elements : p.elements ≤ ELEMENTS
   pub openings : opens (so_far t) ≡ p.openings
-  pub few_openings : p.openings ≤ 4000
+  pub few_openings : p.openings ≤ OPENINGS
   pub depth : depth_at t ≡ p.depth
   pub shallow : IsShallow t
   pub read : list_all is_read (leaves_of (so_far t)) ≡ true
@@ -91,19 +92,23 @@ may_open p t (mark.Open c) h r = let d = r.0 in omega arith
 may_open p t mark.End h r = tt
 may_open p t (mark.Element l) h r = tt
 
-end_same : (p : Place) (b : Bool) → ((cond b (record p { site = site.Between }) (record p { depth = p.depth - 1 })).rungs ≡ p.rungs) × ((cond b (record p { site = site.Between }) (record p { depth = p.depth - 1 })).elements ≡ p.elements) × ((cond b (record p { site = site.Between }) (record p { depth = p.depth - 1 })).openings ≡ p.openings)
+end_same : (p : Place) (b : Bool)
+    → ((cond b (record p { site = site.Between }) (record p { depth = p.depth - 1 })).rungs ≡ p.rungs) × ((cond b (record p { site = site.Between }) (record p { depth = p.depth - 1 })).elements ≡ p.elements) × ((cond b (record p { site = site.Between }) (record p { depth = p.depth - 1 })).openings ≡ p.openings)
 end_same p true = (refl, refl, refl)
 end_same p false = (refl, refl, refl)
 
 -- what one line adds
 record Adds (p : Place) (m : Mark) (ms : List Mark) : Type 0 where
   rungs : begins (ms ++ m ∷ []) ≡ (behind_mark p m).rungs
-  few_rungs : (behind_mark p m).rungs ≤ 500
+  few_rungs : (behind_mark p m).rungs ≤ RUNGS
   elements : length (leaves_of (ms ++ m ∷ [])) ≡ (behind_mark p m).elements
-  few_elements : (behind_mark p m).elements ≤ 4000
+  few_elements : (behind_mark p m).elements ≤ ELEMENTS
   openings : opens (ms ++ m ∷ []) ≡ (behind_mark p m).openings
-  few_openings : (behind_mark p m).openings ≤ 4000
+  few_openings : (behind_mark p m).openings ≤ OPENINGS
   read : list_all is_read (leaves_of (ms ++ m ∷ [])) ≡ true
+
+both_true : (a b : Bool) → a ≡ true → b ≡ true → (a && (b && true)) ≡ true
+both_true a b h e = rw (h, e) refl
 
 adds : (p : Place) (m : Mark) (t : Tree) → Counts p t → RoomFor p (Body m) → IsRead m → Adds p m (so_far t)
 adds p mark.Rung t c r g = record {
@@ -142,11 +147,11 @@ adds p (mark.Element l) t c r g = record {
   few_elements = omega (arith, r);
   openings = omega (arith, opens-append (so_far t) (mark.Element l ∷ []), c.openings);
   few_openings = c.few_openings;
-  read = ap (list_all is_read) (leaves_of-append (so_far t) (mark.Element l ∷ [])) ∙ list_all-append is_read (leaves_of (so_far t)) (l ∷ []) ∙ both (list_all is_read (leaves_of (so_far t))) (is_read l) c.read g;
+  read =
+      ap (list_all is_read) (leaves_of-append (so_far t) (mark.Element l ∷ []))
+      ∙ list_all-append is_read (leaves_of (so_far t)) (l ∷ [])
+      ∙ both_true (list_all is_read (leaves_of (so_far t))) (is_read l) c.read g;
 }
-  where
-    both : (a b : Bool) → a ≡ true → b ≡ true → (a && (b && true)) ≡ true
-    both a b h e = rw (h, e) refl
 
 counts_grown : (p : Place) (t : Tree) (m : Mark) → Counts p t → Suits t m → RoomFor p (Body m) → IsRead m → Counts (behind_mark p m) (grown t m)
 counts_grown p t m c s r g =
@@ -225,20 +230,49 @@ KnowsAt site.Pins fs s = InPins fs s
 KnowsAt site.Between fs s = InBody fs s × IsClosed s.tree
 KnowsAt site.Inside fs s = InBody fs s × IsBuilding s.tree
 
+-- a pin line that lines can say
+abbrev pub is_read_line : pin.PinLine → Bool
+is_read_line l = is_read_pin (pins.Pin l)
+
+-- the settings are those that lines can say
+pub record AreRead (s : Settings) : Type 0 where
+  pub cycle : s.cycle ≤ most_setting
+  pub crystal : s.crystal ≤ most_setting
+  pub baud : s.baud ≤ most_setting
+  pub assigned : list_all is_read_line s.pins ≡ true
+
+-- the place counts the pin lines
+pub record CountsPins (p : Place) (s : Settings) : Type 0 where
+  pub pins : length s.pins ≡ p.pins
+  pub few_pins : p.pins ≤ PIN_LINES
+
 pub record Knows (fs : List Form) (s : Standing) : Type 0 where
   pub spelled : KnowsAt s.place.site fs s
   pub counts : Counts s.place s.tree
   pub target : s.settings.target ≡ s.place.target
   pub built : IsBuilt s.place.target
-  pub timed : s.settings.cycle ≤ most_setting
+  pub read : AreRead s.settings
+  pub pins : CountsPins s.place s.settings
 
 pub at_first : Knows [] first
 at_first = record {
   spelled = (refl, refl, refl);
-  counts = record { rungs = refl; few_rungs = omega arith; elements = refl; few_elements = omega arith; openings = refl; few_openings = omega arith; depth = refl; shallow = omega arith; read = refl };
+  counts =
+      record {
+        rungs = refl;
+        few_rungs = omega arith;
+        elements = refl;
+        few_elements = omega arith;
+        openings = refl;
+        few_openings = omega arith;
+        depth = refl;
+        shallow = omega arith;
+        read = refl;
+      };
   target = refl;
   built = tt;
-  timed = lit≤ tt;
+  read = record { cycle = lit≤ tt; crystal = lit≤ tt; baud = lit≤ tt; assigned = refl };
+  pins = record { pins = refl; few_pins = lit≤ tt };
 }
 
 -- a blank line adds nothing
@@ -250,7 +284,8 @@ one (Pins q) = Pins q ∷ []
 one (Body m) = Body m ∷ []
 
 -- the same with another place and no line more
-header_item : (fs : List Form) (s t : Standing) (f : Form) (i : Item) → InHeader fs s → spelled_item i ≡ f ∷ [] → t.settings ≡ with_item s.settings i → t.tree ≡ s.tree → InHeader (fs ++ f ∷ []) t
+header_item : (fs : List Form) (s t : Standing) (f : Form) (i : Item) → InHeader fs s → spelled_item i ≡ f ∷ [] → t.settings ≡ with_item s.settings i
+    → t.tree ≡ s.tree → InHeader (fs ++ f ∷ []) t
 header_item fs s t f i k e g h = record {
   items = k.items ++ i ∷ [];
   spelled = ap (λ x. x ++ f ∷ []) k.spelled ∙ ap (λ x. Magic ∷ (spelled_items k.items ++ x)) (sym e) ∙ ap (λ x. Magic ∷ x) (sym (spelled_items-one k.items i));
@@ -258,13 +293,15 @@ header_item fs s t f i k e g h = record {
   tree = h ∙ k.tree;
 }
 
-body_more : (fs : List Form) (s : Standing) (m : Mark) (t : Standing) → InBody fs s → Suits s.tree m → t.settings ≡ s.settings → t.tree ≡ grown s.tree m → InBody (fs ++ Body m ∷ []) t
+body_more : (fs : List Form) (s : Standing) (m : Mark) (t : Standing) → InBody fs s → Suits s.tree m → t.settings ≡ s.settings → t.tree ≡ grown s.tree m
+    → InBody (fs ++ Body m ∷ []) t
 body_more fs s m t k u e g = record {
   items = k.items;
   spelled =
       ap (λ x. x ++ Body m ∷ []) k.spelled
       ∙ ap (λ x. Magic ∷ x) (append_assoc (spelled_items k.items) (Header header.Program ∷ map Body (so_far s.tree)) (Body m ∷ []))
-      ∙ ap (λ x. Magic ∷ (spelled_items k.items ++ Header header.Program ∷ x)) (sym (map-append Body (so_far s.tree) (m ∷ [])) ∙ ap (map Body) (sym (so_far-grown s.tree m u) ∙ ap so_far (sym g)));
+      ∙ ap (λ x. Magic ∷ (spelled_items k.items ++ Header header.Program ∷ x))
+      (sym (map-append Body (so_far s.tree) (m ∷ [])) ∙ ap (map Body) (sym (so_far-grown s.tree m u) ∙ ap so_far (sym g)));
   settings = e ∙ k.settings;
   named = ap (λ x. is_some x.target) e ∙ k.named;
 }
@@ -281,7 +318,8 @@ suits_open (Building gs fs ns) mark.End h a = tt
 suits_open (Building gs fs ns) (mark.Element l) h a = tt
 
 -- where a rung ends, the place is between rungs, and else in one
-ends_at : (p : Place) (t : Tree) (fs : List Form) (s : Standing) → p.site ≡ site.Inside → IsBuilding t → depth_at t ≡ p.depth → s.tree ≡ grown t mark.End → InBody fs s → KnowsAt (behind_mark p mark.End).site fs s
+ends_at : (p : Place) (t : Tree) (fs : List Form) (s : Standing) → p.site ≡ site.Inside → IsBuilding t → depth_at t ≡ p.depth → s.tree ≡ grown t mark.End
+    → InBody fs s → KnowsAt (behind_mark p mark.End).site fs s
 ends_at p (Closed gs) fs s e h d g k = absurd h
 ends_at p (Building gs [] ns) fs s e h d g k = by (eqb p.depth 0) (zero p.depth (sym d))
   where
@@ -316,7 +354,8 @@ built_if : (b : Bool) → not b ≡ false → b ≡ true
 built_if true h = refl
 built_if false h = absurd cc
 
-chip_built : (s : Standing) (bytes : List ℕ) (size : ℕ) (t : Target) → s.place.site ≡ site.Header → Passes s.place bytes size (Is (Header (header.Micro (Some t)))) → is_target_built t ≡ true
+chip_built : (s : Standing) (bytes : List ℕ) (size : ℕ) (t : Target) → s.place.site ≡ site.Header
+    → Passes s.place bytes size (Is (Header (header.Micro (Some t)))) → is_target_built t ≡ true
 chip_built s bytes size t e p =
     let rows = ap (λ x. not (is_first x) && (begins_unbuilt s.place.target (tokens bytes) || not (is_target_built t))) (sym e) ∙ p.built in
     built_if (is_target_built t) (or_right (begins_unbuilt s.place.target (tokens bytes)) (not (is_target_built t)) rows)
@@ -336,25 +375,32 @@ abbrev with_pins : Settings → List pin.PinLine → Settings
 with_pins s ls = record s { pins = ls }
 
 -- What a line that has no fault says is spelled behind what was.
-knows_at : (x : Site) (s : Standing) (bytes : List ℕ) (size : ℕ) (fs : List Form) (form : Form) → s.place.site ≡ x → KnowsAt x fs s → Knows fs s → AllowedAt x form → Passes s.place bytes size (Is form) → KnowsAt (standing_behind size s form).place.site (fs ++ one form) (standing_behind size s form)
+knows_at : (x : Site) (s : Standing) (bytes : List ℕ) (size : ℕ) (fs : List Form) (form : Form) → s.place.site ≡ x → KnowsAt x fs s → Knows fs s
+    → AllowedAt x form → Passes s.place bytes size (Is form) → KnowsAt (standing_behind size s form).place.site (fs ++ one form) (standing_behind size s form)
 knows_at site.First s bytes size fs Magic e k all a p = record { items = []; spelled = ap (λ x. x ++ Magic ∷ []) k.0; settings = k.1; tree = k.2 }
 knows_at site.First s bytes size fs Blank e k all a p = absurd a
 knows_at site.First s bytes size fs (Header h) e k all a p = absurd a
 knows_at site.First s bytes size fs (Pins q) e k all a p = absurd a
 knows_at site.First s bytes size fs (Body m) e k all a p = absurd a
 knows_at site.Header s bytes size fs Blank e k all a p =
-    subst (λ y. KnowsAt y (fs ++ []) (standing_behind size s Blank)) (sym e) (record { items = k.items; spelled = append-nil fs ∙ k.spelled; settings = k.settings; tree = k.tree })
+    subst (λ y. KnowsAt y (fs ++ []) (standing_behind size s Blank)) (sym e)
+    (record { items = k.items; spelled = append-nil fs ∙ k.spelled; settings = k.settings; tree = k.tree })
 knows_at site.Header s bytes size fs (Header (header.Micro (Some t))) e k all a p =
-    subst (λ y. KnowsAt y (fs ++ Header (header.Micro (Some t)) ∷ []) (standing_behind size s (Header (header.Micro (Some t))))) (sym e) (header_item fs s _ _ (Chip t) k refl refl refl)
+    subst (λ y. KnowsAt y (fs ++ Header (header.Micro (Some t)) ∷ []) (standing_behind size s (Header (header.Micro (Some t))))) (sym e)
+    (header_item fs s _ _ (Chip t) k refl refl refl)
 knows_at site.Header s bytes size fs (Header (header.Micro None)) e k all a p = absurd (no_chip s.place.target p.chip)
 knows_at site.Header s bytes size fs (Header (header.Cycle n)) e k all a p =
-    subst (λ y. KnowsAt y (fs ++ Header (header.Cycle n) ∷ []) (standing_behind size s (Header (header.Cycle n)))) (sym e) (header_item fs s _ _ (Cycle n) k refl refl refl)
+    subst (λ y. KnowsAt y (fs ++ Header (header.Cycle n) ∷ []) (standing_behind size s (Header (header.Cycle n)))) (sym e)
+    (header_item fs s _ _ (Cycle n) k refl refl refl)
 knows_at site.Header s bytes size fs (Header (header.Crystal n)) e k all a p =
-    subst (λ y. KnowsAt y (fs ++ Header (header.Crystal n) ∷ []) (standing_behind size s (Header (header.Crystal n)))) (sym e) (header_item fs s _ _ (Crystal n) k refl refl refl)
+    subst (λ y. KnowsAt y (fs ++ Header (header.Crystal n) ∷ []) (standing_behind size s (Header (header.Crystal n)))) (sym e)
+    (header_item fs s _ _ (Crystal n) k refl refl refl)
 knows_at site.Header s bytes size fs (Header (header.Baud n)) e k all a p =
-    subst (λ y. KnowsAt y (fs ++ Header (header.Baud n) ∷ []) (standing_behind size s (Header (header.Baud n)))) (sym e) (header_item fs s _ _ (Baud n) k refl refl refl)
+    subst (λ y. KnowsAt y (fs ++ Header (header.Baud n) ∷ []) (standing_behind size s (Header (header.Baud n)))) (sym e)
+    (header_item fs s _ _ (Baud n) k refl refl refl)
 knows_at site.Header s bytes size fs (Header header.Compiled) e k all a p =
-    subst (λ y. KnowsAt y (fs ++ Header header.Compiled ∷ []) (standing_behind size s (Header header.Compiled))) (sym e) (header_item fs s _ _ Compiled k refl refl refl)
+    subst (λ y. KnowsAt y (fs ++ Header header.Compiled ∷ []) (standing_behind size s (Header header.Compiled))) (sym e)
+    (header_item fs s _ _ Compiled k refl refl refl)
 knows_at site.Header s bytes size fs (Header header.Pins) e k all a p = record {
   items = k.items;
   lines = [];
@@ -365,7 +411,9 @@ knows_at site.Header s bytes size fs (Header header.Pins) e k all a p = record {
 knows_at site.Header s bytes size fs (Header header.Program) e k all a p = (
   record {
     items = k.items;
-    spelled = ap (λ x. x ++ Header header.Program ∷ []) k.spelled ∙ ap (λ x. Magic ∷ (spelled_items k.items ++ Header header.Program ∷ map Body (so_far x))) (sym k.tree);
+    spelled =
+        ap (λ x. x ++ Header header.Program ∷ []) k.spelled
+        ∙ ap (λ x. Magic ∷ (spelled_items k.items ++ Header header.Program ∷ map Body (so_far x))) (sym k.tree);
     settings = k.settings;
     named = ap is_some all.target ∙ has_chip s.place.target p.chip;
   },
@@ -375,7 +423,8 @@ knows_at site.Header s bytes size fs Magic e k all a p = absurd a
 knows_at site.Header s bytes size fs (Pins q) e k all a p = absurd a
 knows_at site.Header s bytes size fs (Body m) e k all a p = absurd a
 knows_at site.Pins s bytes size fs Blank e k all a p =
-    subst (λ y. KnowsAt y (fs ++ []) (standing_behind size s Blank)) (sym e) (record { items = k.items; lines = k.lines; spelled = append-nil fs ∙ k.spelled; settings = k.settings; tree = k.tree })
+    subst (λ y. KnowsAt y (fs ++ []) (standing_behind size s Blank)) (sym e)
+    (record { items = k.items; lines = k.lines; spelled = append-nil fs ∙ k.spelled; settings = k.settings; tree = k.tree })
 knows_at site.Pins s bytes size fs (Pins (pins.Pin l)) e k all a p =
     subst (λ y. KnowsAt y (fs ++ Pins (pins.Pin l) ∷ []) (standing_behind size s (Pins (pins.Pin l)))) (sym e) (record {
       items = k.items;
@@ -384,7 +433,9 @@ knows_at site.Pins s bytes size fs (Pins (pins.Pin l)) e k all a p =
           ap (λ x. x ++ Pins (pins.Pin l) ∷ []) k.spelled
           ∙ ap (λ x. Magic ∷ x) (append_assoc (spelled_items k.items) (Header header.Pins ∷ pin_forms k.lines) (Pins (pins.Pin l) ∷ []))
           ∙ ap (λ x. Magic ∷ (spelled_items k.items ++ Header header.Pins ∷ x)) (sym (map-append (λ l. Pins (pins.Pin l)) k.lines (l ∷ [])));
-      settings = ap (λ x. with_pins x (x.pins ++ l ∷ [])) k.settings ∙ ap (with_pins (with_items defaults k.items)) (append_assoc (with_items defaults k.items).pins k.lines (l ∷ []));
+      settings =
+          ap (λ x. with_pins x (x.pins ++ l ∷ [])) k.settings
+          ∙ ap (with_pins (with_items defaults k.items)) (append_assoc (with_items defaults k.items).pins k.lines (l ∷ []));
       tree = k.tree;
     })
 knows_at site.Pins s bytes size fs (Pins pins.End) e k all a p = record {
@@ -400,7 +451,8 @@ knows_at site.Pins s bytes size fs Magic e k all a p = absurd a
 knows_at site.Pins s bytes size fs (Header h) e k all a p = absurd a
 knows_at site.Pins s bytes size fs (Body m) e k all a p = absurd a
 knows_at site.Between s bytes size fs Blank e k all a p =
-    subst (λ y. KnowsAt y (fs ++ []) (standing_behind size s Blank)) (sym e) (record { items = k.0.items; spelled = append-nil fs ∙ k.0.spelled; settings = k.0.settings; named = k.0.named }, k.1)
+    subst (λ y. KnowsAt y (fs ++ []) (standing_behind size s Blank)) (sym e)
+    (record { items = k.0.items; spelled = append-nil fs ∙ k.0.spelled; settings = k.0.settings; named = k.0.named }, k.1)
 knows_at site.Between s bytes size fs (Body mark.Rung) e k all a p =
     (body_more fs s mark.Rung (standing_behind size s (Body mark.Rung)) k.0 (suits_closed s.tree k.1) refl refl, building s.tree k.1)
   where
@@ -414,7 +466,8 @@ knows_at site.Between s bytes size fs Magic e k all a p = absurd a
 knows_at site.Between s bytes size fs (Header h) e k all a p = absurd a
 knows_at site.Between s bytes size fs (Pins q) e k all a p = absurd a
 knows_at site.Inside s bytes size fs Blank e k all a p =
-    subst (λ y. KnowsAt y (fs ++ []) (standing_behind size s Blank)) (sym e) (record { items = k.0.items; spelled = append-nil fs ∙ k.0.spelled; settings = k.0.settings; named = k.0.named }, k.1)
+    subst (λ y. KnowsAt y (fs ++ []) (standing_behind size s Blank)) (sym e)
+    (record { items = k.0.items; spelled = append-nil fs ∙ k.0.spelled; settings = k.0.settings; named = k.0.named }, k.1)
 knows_at site.Inside s bytes size fs (Body mark.Rung) e k all a p = absurd a
 knows_at site.Inside s bytes size fs (Body (mark.Open c)) e k all a p =
     subst (λ y. KnowsAt y (fs ++ Body (mark.Open c) ∷ []) (standing_behind size s (Body (mark.Open c)))) (sym e)
@@ -464,7 +517,10 @@ pub record Kept (t : Standing) : Type 0 where
   pub target : t.settings.target ≡ t.place.target
   pub built : IsBuilt t.place.target
 
-same_place : (s : Standing) (size : ℕ) (form : Form) → Kept s → (standing_behind size s form).place.rungs ≡ s.place.rungs → (standing_behind size s form).place.elements ≡ s.place.elements → (standing_behind size s form).place.openings ≡ s.place.openings → (standing_behind size s form).place.depth ≡ s.place.depth → with_form s.tree form ≡ s.tree → (settings_behind s.settings form).target ≡ s.settings.target → (standing_behind size s form).place.target ≡ s.place.target → Kept (standing_behind size s form)
+same_place : (s : Standing) (size : ℕ) (form : Form) → Kept s → (standing_behind size s form).place.rungs ≡ s.place.rungs
+    → (standing_behind size s form).place.elements ≡ s.place.elements → (standing_behind size s form).place.openings ≡ s.place.openings
+    → (standing_behind size s form).place.depth ≡ s.place.depth → with_form s.tree form ≡ s.tree → (settings_behind s.settings form).target ≡ s.settings.target
+    → (standing_behind size s form).place.target ≡ s.place.target → Kept (standing_behind size s form)
 same_place s size form k a b c d t g h = record {
   counts = subst (λ x. Counts (standing_behind size s form).place x) (sym t) (same_counts s.place (standing_behind size s form).place s.tree a b c d k.counts);
   target = g ∙ k.target ∙ sym h;
@@ -491,7 +547,8 @@ mark_target p (mark.Element l) = refl
 kept_of : (fs : List Form) (s : Standing) → Knows fs s → Kept s
 kept_of fs s k = record { counts = k.counts; target = k.target; built = k.built }
 
-kept_behind : (s : Standing) (number : ℕ) (bytes : List ℕ) (size : ℕ) (fs : List Form) (form : Form) → Knows fs s → said_in s.place.site number bytes ≡ Is form → AllowedAt s.place.site form → Passes s.place bytes size (Is form) → RoomFor s.place form → Kept (standing_behind size s form)
+kept_behind : (s : Standing) (number : ℕ) (bytes : List ℕ) (size : ℕ) (fs : List Form) (form : Form) → Knows fs s → said_in s.place.site number bytes ≡ Is form
+    → AllowedAt s.place.site form → Passes s.place bytes size (Is form) → RoomFor s.place form → Kept (standing_behind size s form)
 kept_behind s number bytes size fs Blank k h a p r = same_place s size Blank (kept_of fs s k) refl refl refl refl refl refl refl
 kept_behind s number bytes size fs Magic k h a p r = same_place s size Magic (kept_of fs s k) refl refl refl refl refl refl refl
 kept_behind s number bytes size fs (Header (header.Micro (Some t))) k h a p r = record {
@@ -500,12 +557,17 @@ kept_behind s number bytes size fs (Header (header.Micro (Some t))) k h a p r = 
   built = chip_built s bytes size t (header_site s.place.site (header.Micro (Some t)) a) p;
 }
 kept_behind s number bytes size fs (Header (header.Micro None)) k h a p r = absurd (no_chip s.place.target p.chip)
-kept_behind s number bytes size fs (Header (header.Cycle n)) k h a p r = same_place s size (Header (header.Cycle n)) (kept_of fs s k) refl refl refl refl refl refl refl
-kept_behind s number bytes size fs (Header (header.Crystal n)) k h a p r = same_place s size (Header (header.Crystal n)) (kept_of fs s k) refl refl refl refl refl refl refl
-kept_behind s number bytes size fs (Header (header.Baud n)) k h a p r = same_place s size (Header (header.Baud n)) (kept_of fs s k) refl refl refl refl refl refl refl
-kept_behind s number bytes size fs (Header header.Compiled) k h a p r = same_place s size (Header header.Compiled) (kept_of fs s k) refl refl refl refl refl refl refl
+kept_behind s number bytes size fs (Header (header.Cycle n)) k h a p r =
+    same_place s size (Header (header.Cycle n)) (kept_of fs s k) refl refl refl refl refl refl refl
+kept_behind s number bytes size fs (Header (header.Crystal n)) k h a p r =
+    same_place s size (Header (header.Crystal n)) (kept_of fs s k) refl refl refl refl refl refl refl
+kept_behind s number bytes size fs (Header (header.Baud n)) k h a p r =
+    same_place s size (Header (header.Baud n)) (kept_of fs s k) refl refl refl refl refl refl refl
+kept_behind s number bytes size fs (Header header.Compiled) k h a p r =
+    same_place s size (Header header.Compiled) (kept_of fs s k) refl refl refl refl refl refl refl
 kept_behind s number bytes size fs (Header header.Pins) k h a p r = same_place s size (Header header.Pins) (kept_of fs s k) refl refl refl refl refl refl refl
-kept_behind s number bytes size fs (Header header.Program) k h a p r = same_place s size (Header header.Program) (kept_of fs s k) refl refl refl refl refl refl refl
+kept_behind s number bytes size fs (Header header.Program) k h a p r =
+    same_place s size (Header header.Program) (kept_of fs s k) refl refl refl refl refl refl refl
 kept_behind s number bytes size fs (Pins (pins.Pin l)) k h a p r = same_place s size (Pins (pins.Pin l)) (kept_of fs s k) refl refl refl refl refl refl refl
 kept_behind s number bytes size fs (Pins pins.End) k h a p r = same_place s size (Pins pins.End) (kept_of fs s k) refl refl refl refl refl refl refl
 kept_behind s number bytes size fs (Body m) k h a p r =
@@ -516,28 +578,85 @@ kept_behind s number bytes size fs (Body m) k h a p r =
       built = subst IsBuilt (sym (mark_target s.place m)) k.built;
     }
 
--- the cycle time that a line says is in its range
-timed_by : (x : Site) (s : Standing) (number : ℕ) (bytes : List ℕ) (n : ℕ) → said_in x number bytes ≡ Is (Header (header.Cycle n)) → n ≤ most_setting
-timed_by x s number bytes n h = cycle_within n (settings_in_range bytes (header.Cycle n) (header_said x number bytes (header.Cycle n) h))
-  where
-    cycle_within : (n : ℕ) → is_read_setting (header.Cycle n) ≡ true → n ≤ most_setting
-    cycle_within n h = grind (arith, nat_tests)
+-- a number that a line says is in its range
+setting_within : (n : ℕ) → nat_le n most_setting ≡ true → n ≤ most_setting
+setting_within n h = grind (arith, nat_tests)
 
-timed_behind : (s : Standing) (number : ℕ) (bytes : List ℕ) (size : ℕ) (form : Form) → s.settings.cycle ≤ most_setting → said_in s.place.site number bytes ≡ Is form → (standing_behind size s form).settings.cycle ≤ most_setting
-timed_behind s number bytes size Blank k h = k
-timed_behind s number bytes size Magic k h = k
-timed_behind s number bytes size (Header (header.Micro t)) k h = k
-timed_behind s number bytes size (Header (header.Cycle n)) k h = timed_by s.place.site s number bytes n h
-timed_behind s number bytes size (Header (header.Crystal n)) k h = k
-timed_behind s number bytes size (Header (header.Baud n)) k h = k
-timed_behind s number bytes size (Header header.Compiled) k h = k
-timed_behind s number bytes size (Header header.Pins) k h = k
-timed_behind s number bytes size (Header header.Program) k h = k
-timed_behind s number bytes size (Pins (pins.Pin l)) k h = k
-timed_behind s number bytes size (Pins pins.End) k h = k
-timed_behind s number bytes size (Body m) k h = k
+-- what a line says of the settings is in its range
+read_behind : (x : Site) (s : Settings) (number : ℕ) (bytes : List ℕ) (form : Form) → AreRead s → said_in x number bytes ≡ Is form
+    → AreRead (settings_behind s form)
+read_behind x s number bytes Blank k h = k
+read_behind x s number bytes Magic k h = k
+read_behind x s number bytes (Header (header.Micro t)) k h = record { cycle = k.cycle; crystal = k.crystal; baud = k.baud; assigned = k.assigned }
+read_behind x s number bytes (Header (header.Cycle n)) k h =
+    let within = setting_within n (settings_in_range bytes (header.Cycle n) (header_said x number bytes (header.Cycle n) h)) in
+    record { cycle = within; crystal = k.crystal; baud = k.baud; assigned = k.assigned }
+read_behind x s number bytes (Header (header.Crystal n)) k h =
+    let within = setting_within n (settings_in_range bytes (header.Crystal n) (header_said x number bytes (header.Crystal n) h)) in
+    record { cycle = k.cycle; crystal = within; baud = k.baud; assigned = k.assigned }
+read_behind x s number bytes (Header (header.Baud n)) k h =
+    let within = setting_within n (settings_in_range bytes (header.Baud n) (header_said x number bytes (header.Baud n) h)) in
+    record { cycle = k.cycle; crystal = k.crystal; baud = within; assigned = k.assigned }
+read_behind x s number bytes (Header header.Compiled) k h = k
+read_behind x s number bytes (Header header.Pins) k h = k
+read_behind x s number bytes (Header header.Program) k h = k
+read_behind x s number bytes (Pins (pins.Pin l)) k h = record {
+  cycle = k.cycle;
+  crystal = k.crystal;
+  baud = k.baud;
+  assigned =
+      list_all-append is_read_line s.pins (l ∷ [])
+      ∙ both_true (list_all is_read_line s.pins) (is_read_line l) k.assigned
+      (pins_in_range (tokens bytes) (pins.Pin l) (pins_said x number bytes (pins.Pin l) h));
+}
+read_behind x s number bytes (Pins pins.End) k h = k
+read_behind x s number bytes (Body m) k h = k
 
-pub knows_more : (number : ℕ) (bytes : List ℕ) (size : ℕ) (s t : Standing) (fs : List Form) → Knows fs s → (w : Went number bytes size s t) → Knows (fs ++ one w.form) t
+header_pins : (p : Place) (h : HeaderLine) → (behind_header p h).pins ≡ p.pins
+header_pins p (header.Micro (Some t)) = refl
+header_pins p (header.Micro None) = refl
+header_pins p (header.Cycle n) = refl
+header_pins p (header.Crystal n) = refl
+header_pins p (header.Baud n) = refl
+header_pins p header.Compiled = refl
+header_pins p header.Pins = refl
+header_pins p header.Program = refl
+
+header_same : (s : Settings) (h : HeaderLine) → (settings_behind s (Header h)).pins ≡ s.pins
+header_same s (header.Micro t) = refl
+header_same s (header.Cycle n) = refl
+header_same s (header.Crystal n) = refl
+header_same s (header.Baud n) = refl
+header_same s header.Compiled = refl
+header_same s header.Pins = refl
+header_same s header.Program = refl
+
+end_pins : (p : Place) (b : Bool) → (cond b (record p { site = site.Between }) (record p { depth = p.depth - 1 })).pins ≡ p.pins
+end_pins p true = refl
+end_pins p false = refl
+
+mark_pins : (p : Place) (m : Mark) → (behind_mark p m).pins ≡ p.pins
+mark_pins p mark.Rung = refl
+mark_pins p (mark.Open c) = refl
+mark_pins p mark.End = end_pins p (eqb p.depth 0)
+mark_pins p (mark.Element l) = refl
+
+same_pins : (p q : Place) (s t : Settings) → q.pins ≡ p.pins → t.pins ≡ s.pins → CountsPins p s → CountsPins q t
+same_pins p q s t e g k = record { pins = ap length g ∙ k.pins ∙ sym e; few_pins = omega (arith, e, k.few_pins) }
+
+pins_behind : (s : Standing) (size : ℕ) (form : Form) → CountsPins s.place s.settings → RoomFor s.place form
+    → CountsPins (standing_behind size s form).place (standing_behind size s form).settings
+pins_behind s size Blank k r = same_pins s.place (standing_behind size s Blank).place s.settings s.settings refl refl k
+pins_behind s size Magic k r = same_pins s.place (standing_behind size s Magic).place s.settings s.settings refl refl k
+pins_behind s size (Header h) k r =
+    same_pins s.place (standing_behind size s (Header h)).place s.settings (settings_behind s.settings (Header h)) (header_pins s.place h)
+    (header_same s.settings h) k
+pins_behind s size (Pins (pins.Pin l)) k r = record { pins = omega (arith, length-append s.settings.pins (l ∷ []), k.pins); few_pins = omega (arith, r) }
+pins_behind s size (Pins pins.End) k r = same_pins s.place (standing_behind size s (Pins pins.End)).place s.settings s.settings refl refl k
+pins_behind s size (Body m) k r = same_pins s.place (standing_behind size s (Body m)).place s.settings s.settings (mark_pins s.place m) refl k
+
+pub knows_more : (number : ℕ) (bytes : List ℕ) (size : ℕ) (s t : Standing) (fs : List Form) → Knows fs s → (w : Went number bytes size s t)
+    → Knows (fs ++ one w.form) t
 knows_more number bytes size s t fs k w =
     let e = ap (fault_of s.place number bytes size) (sym w.said) ∙ w.faultless in
     let p = passes s.place number bytes size (Is w.form) e in
@@ -549,7 +668,8 @@ knows_more number bytes size s t fs k w =
       counts = kept.counts;
       target = kept.target;
       built = kept.built;
-      timed = timed_behind s number bytes size w.form k.timed w.said;
+      read = read_behind s.place.site s.settings number bytes w.form k.read w.said;
+      pins = pins_behind s size w.form k.pins r.1;
     })
 
 unblank : (form : Form) (more : List Form) → unblanked (Is form) (map Is more) ≡ map Is (one form ++ more)
@@ -569,7 +689,8 @@ pub told : (n : ℕ) (ls : List Line) (s t : Standing) (fs : List Form) → Know
 told n [] s t fs k h = let e : s ≡ t = cc in record { more = []; said = refl; knows = subst (λ x. Knows x t) (sym (append-nil fs)) (subst (Knows fs) e k) }
 told n (l ∷ ls) s t fs k h = by (taken n l.bytes (size_of l) s) refl h (λ u gs. told (n + 1) ls u t gs)
   where
-    by : (o : Taken) → taken n l.bytes (size_of l) s ≡ o → then (run (n + 1) ls) o ≡ Goes t → ((u : Standing) (gs : List Form) → Knows gs u → run (n + 1) ls u ≡ Goes t → Told u.place (n + 1) ls gs t) → Told s.place n (l ∷ ls) fs t
+    by : (o : Taken) → taken n l.bytes (size_of l) s ≡ o → then (run (n + 1) ls) o ≡ Goes t
+        → ((u : Standing) (gs : List Form) → Knows gs u → run (n + 1) ls u ≡ Goes t → Told u.place (n + 1) ls gs t) → Told s.place n (l ∷ ls) fs t
     by (Stops f) e h rec = absurd cc
     by (Goes u) e h rec =
         let w = goes n l.bytes (size_of l) s u e in
@@ -577,6 +698,10 @@ told n (l ∷ ls) s t fs k h = by (taken n l.bytes (size_of l) s) refl h (λ u g
         let place : behind s.place n l ≡ u.place = ap (behind_said s.place (size_of l)) w.said ∙ sym (ap (λ x. x.place) w.is) in
         record {
           more = one w.form ++ q.more;
-          said = ap (λ x. unblanked x (said_by (behind s.place n l) (n + 1) ls)) w.said ∙ ap (λ x. unblanked (Is w.form) (said_by x (n + 1) ls)) place ∙ ap (unblanked (Is w.form)) q.said ∙ unblank w.form q.more;
+          said =
+              ap (λ x. unblanked x (said_by (behind s.place n l) (n + 1) ls)) w.said
+              ∙ ap (λ x. unblanked (Is w.form) (said_by x (n + 1) ls)) place
+              ∙ ap (unblanked (Is w.form)) q.said
+              ∙ unblank w.form q.more;
           knows = subst (λ x. Knows x t) (append_assoc fs (one w.form) q.more) q.knows;
         }

@@ -6,5 +6,6 @@ pub mod SaidLemmas
 pub mod RunLemmas
 pub mod KnowsLemmas
 pub mod VerdictLemmas
+pub mod CutLemmas
 pub mod ReaderLemmas
 pub mod ProjectLemmas

@@ -65,7 +65,10 @@ settings_item (PinSection ls) s = settings_by-append s (pin_forms ls) (Pins pins
 
 settings_items : (is : List Item) (s : Settings) → settings_by s (spelled_items is) ≡ with_items s is
 settings_items [] s = refl
-settings_items (i ∷ is) s = settings_by-append s (spelled_item i) (spelled_items is) ∙ ap (λ x. settings_by x (spelled_items is)) (settings_item i s) ∙ settings_items is (with_item s i)
+settings_items (i ∷ is) s =
+    settings_by-append s (spelled_item i) (spelled_items is)
+    ∙ ap (λ x. settings_by x (spelled_items is)) (settings_item i s)
+    ∙ settings_items is (with_item s i)
 
 settings_body : (ms : List Mark) (s : Settings) → settings_by s (map Body ms) ≡ s
 settings_body [] s = refl
@@ -102,7 +105,8 @@ tree_body (m ∷ ms) t = tree_body ms (grown t m)
 abbrev IsGrown : Node → Type 0
 IsGrown n = (gs : List Rung) (fs : List Frame) (ms : List Node) → grown_by (Building gs fs ms) (spelled_node n) ≡ Building gs fs (ms ++ n ∷ [])
 
-each_grown : (ns : List Node) → Each IsGrown ns → (gs : List Rung) (fs : List Frame) (ms : List Node) → grown_by (Building gs fs ms) (spelled_nodes ns) ≡ Building gs fs (ms ++ ns)
+each_grown : (ns : List Node) → Each IsGrown ns → (gs : List Rung) (fs : List Frame) (ms : List Node)
+    → grown_by (Building gs fs ms) (spelled_nodes ns) ≡ Building gs fs (ms ++ ns)
 each_grown [] h gs fs ms = ap (Building gs fs) (sym (append-nil ms))
 each_grown (n ∷ ns) h gs fs ms =
     grown_by-append (Building gs fs ms) (spelled_node n) (spelled_nodes ns)
@@ -117,7 +121,9 @@ form_grown c ns h gs fs ms =
     ∙ ap (λ t. grown t mark.End) (each_grown ns h gs (record { circuit = c; nodes = ms } ∷ fs) [])
 
 node_grown : (n : Node) → IsGrown n
-node_grown = node_ind IsGrown (λ l gs fs ms. ap (grown_by (Building gs fs ms)) (spelled-Leaf l)) (λ ns h. form_grown circuit.Series ns h) (λ ns h. form_grown circuit.Parallel ns h)
+node_grown =
+    node_ind IsGrown (λ l gs fs ms. ap (grown_by (Building gs fs ms)) (spelled-Leaf l)) (λ ns h. form_grown circuit.Series ns h)
+    (λ ns h. form_grown circuit.Parallel ns h)
 
 all_grown : (ns : List Node) → Each IsGrown ns
 all_grown [] = tt
@@ -151,9 +157,14 @@ same_said (x ∷ xs) (y ∷ ys) h =
 pub one_project : (ls : List Line) (p q : Project) → IsProject ls p → IsProject ls q → p ≡ q
 one_project ls p q h g =
     let forms = same_said (spelled_project h.items p.rungs) (spelled_project g.items q.rungs) (sym h.spelled ∙ g.spelled) in
-    let settings : with_items defaults h.items ≡ with_items defaults g.items = sym (settings_project h.items p.rungs) ∙ ap (settings_by defaults) forms ∙ settings_project g.items q.rungs in
+    let settings : with_items defaults h.items ≡ with_items defaults g.items =
+    sym (settings_project h.items p.rungs) ∙ ap (settings_by defaults) forms ∙ settings_project g.items q.rungs in
     let trees : Closed p.rungs ≡ Closed q.rungs = sym (tree_project h.items p.rungs) ∙ ap (tree_by (Closed [])) forms ∙ tree_project g.items q.rungs in
     let rungs : p.rungs ≡ q.rungs = cc in
     let named : Some p.target ≡ Some q.target = sym h.target ∙ ap (λ s. s.target) settings ∙ g.target in
     let target : p.target ≡ q.target = cc in
-    h.settings ∙ ap (λ s. project_of s p.target p.rungs) settings ∙ ap (λ t. project_of (with_items defaults g.items) t p.rungs) target ∙ ap (project_of (with_items defaults g.items) q.target) rungs ∙ sym g.settings
+    h.settings
+    ∙ ap (λ s. project_of s p.target p.rungs) settings
+    ∙ ap (λ t. project_of (with_items defaults g.items) t p.rungs) target
+    ∙ ap (project_of (with_items defaults g.items) q.target) rungs
+    ∙ sym g.settings

@@ -123,7 +123,9 @@ mapped_element Range k h = absurd cc
 mapped_element (Is j) k h = let same : rung.Element j ≡ rung.Element k = cc in let inner : j ≡ k = cc in ap Is inner
 
 -- a line that is one of the four words says no element
-no_alone : (token : List ℕ) (b c d e : Bool) (ts : List (List ℕ)) (other : Said RungLine) (k : LeafKind) → alone_or (cond b (Some rung.Rung) (cond c (Some (rung.Open circuit.Series)) (cond d (Some (rung.Open circuit.Parallel)) (cond e (Some rung.End) None)))) ts other ≡ Is (rung.Element k) → other ≡ Is (rung.Element k)
+no_alone : (token : List ℕ) (b c d e : Bool) (ts : List (List ℕ)) (other : Said RungLine) (k : LeafKind)
+    → alone_or (cond b (Some rung.Rung) (cond c (Some (rung.Open circuit.Series)) (cond d (Some (rung.Open circuit.Parallel)) (cond e (Some rung.End) None)))) ts other ≡ Is (rung.Element k)
+    → other ≡ Is (rung.Element k)
 no_alone token true c d e [] other k h = absurd cc
 no_alone token true c d e (t ∷ ts) other k h = absurd cc
 no_alone token false true d e [] other k h = absurd cc
@@ -142,7 +144,8 @@ rung_worded (token ∷ ts) bytes k e h = by (word_of token) refl (no_alone token
     by None f g = absurd cc
     by (Some w) f g = record { token = token; rest = ts; word = w; tokens = e; known = f; said = mapped_element (element_of w ts bytes) k g }
 
-inside_element : (number : ℕ) (ts : List (List ℕ)) (x : Said RungLine) (l : leaf.Leaf) → unless_blank ts (inside number x) ≡ Is (Body (mark.Element l)) → x ≡ Is (rung.Element l.kind)
+inside_element : (number : ℕ) (ts : List (List ℕ)) (x : Said RungLine) (l : leaf.Leaf) → unless_blank ts (inside number x) ≡ Is (Body (mark.Element l))
+    → x ≡ Is (rung.Element l.kind)
 inside_element number [] x l h = absurd cc
 inside_element number (t ∷ ts) (Is rung.Rung) l h = absurd cc
 inside_element number (t ∷ ts) (Is (rung.Open c)) l h = absurd cc
@@ -164,7 +167,8 @@ IsBuilt None = Unit {0}
 IsBuilt (Some t) = is_target_built t ≡ true
 
 -- what a line above PROGRAM says that has tokens
-pub said_in-header : (x : Site) (number : ℕ) (bytes : List ℕ) (ts : List (List ℕ)) → x ≡ site.Header → ts ≡ tokens bytes → eqb (length ts) 0 ≡ false → said_in x number bytes ≡ said_map Header (header_of bytes)
+pub said_in-header : (x : Site) (number : ℕ) (bytes : List ℕ) (ts : List (List ℕ)) → x ≡ site.Header → ts ≡ tokens bytes → eqb (length ts) 0 ≡ false
+    → said_in x number bytes ≡ said_map Header (header_of bytes)
 said_in-header x number bytes [] e h g = absurd cc
 said_in-header x number bytes (t ∷ ts) e h g = ap (λ y. said_in y number bytes) e ∙ ap (λ ts. unless_blank ts (said_map Header (header_of bytes))) (sym h)
 
@@ -176,6 +180,23 @@ mapped_header (Is j) h e = let same : Header j ≡ Header h = cc in let inner : 
 unblank_header : (ts : List (List ℕ)) (x : Said HeaderLine) (h : HeaderLine) → unless_blank ts (said_map Header x) ≡ Is (Header h) → x ≡ Is h
 unblank_header [] x h e = absurd cc
 unblank_header (t ∷ ts) x h e = mapped_header x h e
+
+mapped_pins : (x : Said PinsLine) (q : PinsLine) → said_map Pins x ≡ Is (Pins q) → x ≡ Is q
+mapped_pins Bad q e = absurd cc
+mapped_pins Range q e = absurd cc
+mapped_pins (Is r) q e = let same : Pins r ≡ Pins q = cc in let inner : r ≡ q = cc in ap Is inner
+
+unblank_pins : (ts : List (List ℕ)) (x : Said PinsLine) (q : PinsLine) → unless_blank ts (said_map Pins x) ≡ Is (Pins q) → x ≡ Is q
+unblank_pins [] x q e = absurd cc
+unblank_pins (t ∷ ts) x q e = mapped_pins x q e
+
+-- a line of a pin list is said in one alone
+pub pins_said : (x : Site) (number : ℕ) (bytes : List ℕ) (q : PinsLine) → said_in x number bytes ≡ Is (Pins q) → pin_of_line (tokens bytes) ≡ Is q
+pins_said site.Pins number bytes q e = unblank_pins (tokens bytes) (pin_of_line (tokens bytes)) q e
+pins_said site.First number bytes q e = absurd (allowed site.First number bytes (Pins q) e)
+pins_said site.Header number bytes q e = absurd (allowed site.Header number bytes (Pins q) e)
+pins_said site.Between number bytes q e = absurd (allowed site.Between number bytes (Pins q) e)
+pins_said site.Inside number bytes q e = absurd (allowed site.Inside number bytes (Pins q) e)
 
 -- a line of the header is said above PROGRAM alone
 pub header_said : (x : Site) (number : ℕ) (bytes : List ℕ) (h : HeaderLine) → said_in x number bytes ≡ Is (Header h) → header_of bytes ≡ Is h

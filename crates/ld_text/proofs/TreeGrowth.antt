@@ -2,6 +2,7 @@
 use Rattle.std.proofs.Common.{◌≡◌, ℕ, ◌+◌, ◌<◌, ◌≤◌, List, [], ◌∷◌, ◌++◌, length, map, refl, sym, ap, ◌∙◌, arith, append_assoc, append-nil}
 use Rattle.std.proofs.lemmas.List.Sums.{sum_by-cons}
 use Rattle.ladder_tree.specs.declared.element.Leaf as leaf
+use Rattle.ladder_tree.specs.declared.limits.TheConstants.{DEPTH}
 use Rattle.ladder_tree.specs.declared.project.Node.{Node, Leaf}
 use Rattle.ladder_tree.specs.declared.project.Rung.{Rung}
 use Rattle.ladder_tree.specs.Induct.{Each, node_ind}
@@ -18,14 +19,17 @@ use Rattle.ld_text.proofs.TreeLemmas.{spelled-Leaf, spelled-closed, depth-Leaf, 
 
 spelled_nodes-append : (ns ms : List Node) → spelled_nodes (ns ++ ms) ≡ spelled_nodes ns ++ spelled_nodes ms
 spelled_nodes-append [] ms = refl
-spelled_nodes-append (n ∷ ns) ms = ap (λ l. spelled_node n ++ l) (spelled_nodes-append ns ms) ∙ sym (append_assoc (spelled_node n) (spelled_nodes ns) (spelled_nodes ms))
+spelled_nodes-append (n ∷ ns) ms =
+    ap (λ l. spelled_node n ++ l) (spelled_nodes-append ns ms) ∙ sym (append_assoc (spelled_node n) (spelled_nodes ns) (spelled_nodes ms))
 
 spelled_nodes-one : (ns : List Node) (n : Node) → spelled_nodes (ns ++ n ∷ []) ≡ spelled_nodes ns ++ spelled_node n
 spelled_nodes-one ns n = spelled_nodes-append ns (n ∷ []) ∙ ap (λ l. spelled_nodes ns ++ l) (append-nil (spelled_node n))
 
 spelled-one : (gs : List Rung) (g : Rung) → spelled (gs ++ g ∷ []) ≡ spelled gs ++ mark.Rung ∷ (spelled_nodes g.nodes ++ mark.End ∷ [])
 spelled-one [] g = refl
-spelled-one (h ∷ gs) g = ap (λ l. mark.Rung ∷ (spelled_nodes h.nodes ++ mark.End ∷ l)) (spelled-one gs g) ∙ ap (λ l. mark.Rung ∷ l) (sym (append_assoc (spelled_nodes h.nodes) (mark.End ∷ spelled gs) (mark.Rung ∷ (spelled_nodes g.nodes ++ mark.End ∷ []))))
+spelled-one (h ∷ gs) g =
+    ap (λ l. mark.Rung ∷ (spelled_nodes h.nodes ++ mark.End ∷ l)) (spelled-one gs g)
+    ∙ ap (λ l. mark.Rung ∷ l) (sym (append_assoc (spelled_nodes h.nodes) (mark.End ∷ spelled gs) (mark.Rung ∷ (spelled_nodes g.nodes ++ mark.End ∷ []))))
 
 -- the lines that led into forms that are open
 abbrev into : List Frame → List Node → List Mark
@@ -39,7 +43,9 @@ so_far (Building gs fs ns) = spelled gs ++ mark.Rung ∷ into fs ns
 
 into-one : (fs : List Frame) (ns : List Node) (n : Node) → into fs (ns ++ n ∷ []) ≡ into fs ns ++ spelled_node n
 into-one [] ns n = spelled_nodes-one ns n
-into-one (f ∷ fs) ns n = ap (λ l. into fs f.nodes ++ mark.Open f.circuit ∷ l) (spelled_nodes-one ns n) ∙ sym (append_assoc (into fs f.nodes) (mark.Open f.circuit ∷ spelled_nodes ns) (spelled_node n))
+into-one (f ∷ fs) ns n =
+    ap (λ l. into fs f.nodes ++ mark.Open f.circuit ∷ l) (spelled_nodes-one ns n)
+    ∙ sym (append_assoc (into fs f.nodes) (mark.Open f.circuit ∷ spelled_nodes ns) (spelled_node n))
 
 inside-more : (gs : List Rung) (xs ys : List Mark) → spelled gs ++ mark.Rung ∷ (xs ++ ys) ≡ (spelled gs ++ mark.Rung ∷ xs) ++ ys
 inside-more gs xs ys = sym (append_assoc (spelled gs) (mark.Rung ∷ xs) ys)
@@ -47,7 +53,8 @@ inside-more gs xs ys = sym (append_assoc (spelled gs) (mark.Rung ∷ xs) ys)
 so_far-ended : (gs : List Rung) (fs : List Frame) (ns : List Node) → so_far (ended gs fs ns) ≡ so_far (Building gs fs ns) ++ mark.End ∷ []
 so_far-ended gs [] ns = spelled-one gs (record { nodes = ns }) ∙ inside-more gs (spelled_nodes ns) (mark.End ∷ [])
 so_far-ended gs (f ∷ fs) ns =
-    ap (λ l. spelled gs ++ mark.Rung ∷ l) (into-one fs f.nodes (closed f.circuit ns) ∙ ap (λ l. into fs f.nodes ++ l) (spelled-closed f.circuit ns) ∙ sym (append_assoc (into fs f.nodes) (mark.Open f.circuit ∷ spelled_nodes ns) (mark.End ∷ [])))
+    ap (λ l. spelled gs ++ mark.Rung ∷ l)
+    (into-one fs f.nodes (closed f.circuit ns) ∙ ap (λ l. into fs f.nodes ++ l) (spelled-closed f.circuit ns) ∙ sym (append_assoc (into fs f.nodes) (mark.Open f.circuit ∷ spelled_nodes ns) (mark.End ∷ [])))
     ∙ inside-more gs (into fs f.nodes ++ mark.Open f.circuit ∷ spelled_nodes ns) (mark.End ∷ [])
 
 -- the line fits: a rung where none is open, and any other line in one
@@ -70,35 +77,36 @@ so_far-grown (Building gs fs ns) mark.Rung s = absurd s
 so_far-grown (Building gs fs ns) (mark.Open c) s = inside-more gs (into fs ns) (mark.Open c ∷ [])
 so_far-grown (Building gs fs ns) mark.End s = so_far-ended gs fs ns
 so_far-grown (Building gs fs ns) (mark.Element l) s =
-    ap (λ x. spelled gs ++ mark.Rung ∷ x) (into-one fs ns (Leaf l) ∙ ap (λ x. into fs ns ++ x) (spelled-Leaf l)) ∙ inside-more gs (into fs ns) (mark.Element l ∷ [])
+    ap (λ x. spelled gs ++ mark.Rung ∷ x) (into-one fs ns (Leaf l) ∙ ap (λ x. into fs ns ++ x) (spelled-Leaf l))
+    ∙ inside-more gs (into fs ns) (mark.Element l ∷ [])
 
 -- how deep forms stand in one another
 
-depth_in-one : (ns : List Node) (n : Node) (k : ℕ) → depth_in ns + k ≤ 16 → depth_of n + k ≤ 16 → depth_in (ns ++ n ∷ []) + k ≤ 16
+depth_in-one : (ns : List Node) (n : Node) (k : ℕ) → depth_in ns + k ≤ DEPTH → depth_of n + k ≤ DEPTH → depth_in (ns ++ n ∷ []) + k ≤ DEPTH
 depth_in-one [] n k h g = omega arith
-depth_in-one (x ∷ ns) n k h g = let more : depth_in ns + k ≤ 16 = omega arith in omega (arith, depth_in-one ns n k more g)
+depth_in-one (x ∷ ns) n k h g = let more : depth_in ns + k ≤ DEPTH = omega arith in omega (arith, depth_in-one ns n k more g)
 
-depth_of_all-one : (gs : List Rung) (g : Rung) → depth_of_all gs ≤ 16 → depth_in g.nodes ≤ 16 → depth_of_all (gs ++ g ∷ []) ≤ 16
+depth_of_all-one : (gs : List Rung) (g : Rung) → depth_of_all gs ≤ DEPTH → depth_in g.nodes ≤ DEPTH → depth_of_all (gs ++ g ∷ []) ≤ DEPTH
 depth_of_all-one [] g h d = omega arith
-depth_of_all-one (x ∷ gs) g h d = let more : depth_of_all gs ≤ 16 = omega arith in omega (arith, depth_of_all-one gs g more d)
+depth_of_all-one (x ∷ gs) g h d = let more : depth_of_all gs ≤ DEPTH = omega arith in omega (arith, depth_of_all-one gs g more d)
 
 abbrev AllShallow : List Frame → List Node → Type 0
-AllShallow [] ns = depth_in ns ≤ 16
-AllShallow (f ∷ fs) ns = (depth_in ns + length (f ∷ fs) ≤ 16) × AllShallow fs f.nodes
+AllShallow [] ns = depth_in ns ≤ DEPTH
+AllShallow (f ∷ fs) ns = (depth_in ns + length (f ∷ fs) ≤ DEPTH) × AllShallow fs f.nodes
 
 abbrev pub IsShallow : Tree → Type 0
-IsShallow (Closed gs) = depth_of_all gs ≤ 16
-IsShallow (Building gs fs ns) = (depth_of_all gs ≤ 16) × AllShallow fs ns
+IsShallow (Closed gs) = depth_of_all gs ≤ DEPTH
+IsShallow (Building gs fs ns) = (depth_of_all gs ≤ DEPTH) × AllShallow fs ns
 
-shallow_room : (fs : List Frame) (ns : List Node) → AllShallow fs ns → depth_in ns + length fs ≤ 16
+shallow_room : (fs : List Frame) (ns : List Node) → AllShallow fs ns → depth_in ns + length fs ≤ DEPTH
 shallow_room [] ns h = omega arith
 shallow_room (f ∷ fs) ns h = h.0
 
-shallow_one : (fs : List Frame) (ns : List Node) (n : Node) → depth_of n + length fs ≤ 16 → AllShallow fs ns → AllShallow fs (ns ++ n ∷ [])
+shallow_one : (fs : List Frame) (ns : List Node) (n : Node) → depth_of n + length fs ≤ DEPTH → AllShallow fs ns → AllShallow fs (ns ++ n ∷ [])
 shallow_one [] ns n d h = let e = depth_in-one ns n 0 (omega arith) (omega arith) in omega (arith, e)
 shallow_one (f ∷ fs) ns n d h = (depth_in-one ns n (length (f ∷ fs)) h.0 d, h.1)
 
-shallow_ended : (gs : List Rung) (fs : List Frame) (ns : List Node) → depth_of_all gs ≤ 16 → AllShallow fs ns → IsShallow (ended gs fs ns)
+shallow_ended : (gs : List Rung) (fs : List Frame) (ns : List Node) → depth_of_all gs ≤ DEPTH → AllShallow fs ns → IsShallow (ended gs fs ns)
 shallow_ended gs [] ns g h = depth_of_all-one gs (record { nodes = ns }) g h
 shallow_ended gs (f ∷ fs) ns g h = (g, shallow_one fs f.nodes (closed f.circuit ns) (omega (arith, depth-closed f.circuit ns, h.0)) h.1)
 
@@ -109,7 +117,7 @@ depth_at (Building gs fs ns) = length fs
 
 -- there is room for one form more, where the line opens one
 abbrev pub MayOpen : Tree → Mark → Type 0
-MayOpen t (mark.Open c) = depth_at t < 16
+MayOpen t (mark.Open c) = depth_at t < DEPTH
 MayOpen t mark.Rung = Unit {0}
 MayOpen t mark.End = Unit {0}
 MayOpen t (mark.Element l) = Unit {0}
@@ -184,8 +192,13 @@ each_counted [] h = record { elements = refl; opens = refl; begins = refl }
 each_counted (n ∷ ns) h =
     let r = each_counted ns h.1 in
     record {
-      elements = leaves_of-append (spelled_node n) (spelled_nodes ns) ∙ ap (λ x. x ++ leaves_of (spelled_nodes ns)) h.0.elements ∙ ap (λ x. leaves n ++ x) r.elements;
-      opens = opens-append (spelled_node n) (spelled_nodes ns) ∙ ap (λ k. k + opens (spelled_nodes ns)) h.0.opens ∙ ap (λ k. forms_of n + k) r.opens ∙ sym (sum_by-cons (λ x. x) (forms_of n) (map forms_of ns));
+      elements =
+          leaves_of-append (spelled_node n) (spelled_nodes ns) ∙ ap (λ x. x ++ leaves_of (spelled_nodes ns)) h.0.elements ∙ ap (λ x. leaves n ++ x) r.elements;
+      opens =
+          opens-append (spelled_node n) (spelled_nodes ns)
+          ∙ ap (λ k. k + opens (spelled_nodes ns)) h.0.opens
+          ∙ ap (λ k. forms_of n + k) r.opens
+          ∙ sym (sum_by-cons (λ x. x) (forms_of n) (map forms_of ns));
       begins = omega (arith, begins-append (spelled_node n) (spelled_nodes ns), h.0.begins, r.begins);
     }
 
@@ -193,7 +206,12 @@ form_counted : (c : Circuit) (ns : List Node) → Each Counted ns → Counted (c
 form_counted c ns h =
     let r = each_counted ns h in
     record {
-      elements = ap leaves_of (spelled-closed c ns) ∙ leaves_of-append (spelled_nodes ns) (mark.End ∷ []) ∙ append-nil (leaves_of (spelled_nodes ns)) ∙ r.elements ∙ sym (leaves-closed c ns);
+      elements =
+          ap leaves_of (spelled-closed c ns)
+          ∙ leaves_of-append (spelled_nodes ns) (mark.End ∷ [])
+          ∙ append-nil (leaves_of (spelled_nodes ns))
+          ∙ r.elements
+          ∙ sym (leaves-closed c ns);
       opens = ap opens (spelled-closed c ns) ∙ omega (arith, opens-append (spelled_nodes ns) (mark.End ∷ []), r.opens, forms-closed c ns);
       begins = ap begins (spelled-closed c ns) ∙ omega (arith, begins-append (spelled_nodes ns) (mark.End ∷ []), r.begins);
     }
@@ -224,7 +242,10 @@ rungs_counted (g ∷ gs) =
     let h = each_counted g.nodes (all_counted g.nodes) in
     let r = rungs_counted gs in
     record {
-      elements = leaves_of-append (spelled_nodes g.nodes) (mark.End ∷ spelled gs) ∙ ap (λ x. x ++ leaves_of (spelled gs)) h.elements ∙ ap (λ x. leaves_in g.nodes ++ x) r.elements;
+      elements =
+          leaves_of-append (spelled_nodes g.nodes) (mark.End ∷ spelled gs)
+          ∙ ap (λ x. x ++ leaves_of (spelled gs)) h.elements
+          ∙ ap (λ x. leaves_in g.nodes ++ x) r.elements;
       opens = omega (arith, opens-append (spelled_nodes g.nodes) (mark.End ∷ spelled gs), h.opens, r.opens);
       begins = omega (arith, begins-append (spelled_nodes g.nodes) (mark.End ∷ spelled gs), h.begins, r.begins);
     }

@@ -1,5 +1,5 @@
 -- The answer of a reader is the verdict of the text.
-use Rattle.std.proofs.Common.{◌≡◌, ◌≢◌, ℕ, ◌+◌, ◌≤◌, Bool, true, false, cond, ltb, List, [], ◌∷◌, ◌++◌, length, map, Option, Some, None, is_some, refl, sym, ap, subst, ◌∙◌, arith, length-append, lit≤, take, length-take}
+use Rattle.std.proofs.Common.{◌≡◌, ◌≢◌, ℕ, ◌+◌, ◌≤◌, Bool, true, false, cond, ltb, List, [], ◌∷◌, ◌++◌, length, map, Option, Some, None, is_some, refl, sym, ap, subst, ◌∙◌, arith, append-nil, length-append, lit≤, take, length-take}
 use Rattle.std.specs.List.{list_all}
 use Rattle.std.proofs.lemmas.Bool.Decides.{nat_tests}
 use Rattle.std.proofs.lemmas.List.{take_all}
@@ -7,19 +7,22 @@ use Rattle.std.proofs.lemmas.List.Elements.{All-nil}
 use Rattle.chip_tables.specs.declared.target.Target.{Target}
 use Rattle.ladder_tree.specs.declared.fault.ProjectFault.{ProjectFault}
 use Rattle.ladder_tree.specs.declared.fault.ProjectFault.TheVariants.{LineTooLong}
+use Rattle.ladder_tree.specs.declared.project.Project.{Project}
 use Rattle.ladder_tree.specs.declared.project.Rung.{Rung}
+use Rattle.texts.specs.declared.limits.TheConstants.{LINE_BYTES, FILE_BYTES}
 use Rattle.ld_line.specs.declared.said.Said.TheVariants.{Is}
 use Rattle.ld_text.specs.declared.form.Form.TheVariants.{Magic, Header, Body}
 use Rattle.ld_text.specs.declared.place.Site.{Site}
 use Rattle.ld_text.specs.declared.place.Site.TheVariants as site
 use Rattle.ld_text.specs.Lines.{Line, size_of, open_line, ended_lines, behind_feeds, lines_of}
 use Rattle.ld_text.specs.Place.{start, behind_all}
-use Rattle.ld_text.specs.Faults.{most_line, most_text, first_fault, or_else, end_fault}
+use Rattle.ld_text.specs.Faults.{first_fault, or_else, end_fault}
 use Rattle.ld_text.specs.Spelling.{spelled_items}
 use Rattle.ld_line.specs.declared.header.HeaderLine.TheVariants as header
 use Rattle.ld_text.specs.Text.{IsReadAs, text_fault, early_fault, early_length, project_of, judged}
 use Rattle.ld_text.specs.Within.{IsWithin}
 use Rattle.ld_text.specs.Reading.{Tree, Closed, Building, Standing, first, Taken, Goes, Stops, taken, Mind, Reads, Refuses, next, fed, fresh, Verdict, Accepts, Rejects, project_at, ended_as, at_end, finished}
+use Rattle.ld_text.proofs.FedLemmas.{fed_refused, fed_append}
 use Rattle.ld_text.proofs.TreeGrowth.{rungs_counted, so_far}
 use Rattle.ld_text.proofs.RunLemmas.{then, run, early_run, FedTo, fed_to, run_goes, run_stops}
 use Rattle.ld_text.proofs.SaidLemmas.{IsBuilt}
@@ -29,7 +32,8 @@ run-append : (n : ℕ) (xs ys : List Line) (s : Standing) → run n (xs ++ ys) s
 run-append n [] ys s = let k : n ≡ n + 0 = omega arith in ap (λ k. run k ys s) k
 run-append n (x ∷ xs) ys s = by (taken n x.bytes (size_of x) s) (λ t. run-append (n + 1) xs ys t)
   where
-    by : (o : Taken) → ((t : Standing) → run (n + 1) (xs ++ ys) t ≡ then (run (n + 1 + length xs) ys) (run (n + 1) xs t)) → then (run (n + 1) (xs ++ ys)) o ≡ then (run (n + length (x ∷ xs)) ys) (then (run (n + 1) xs) o)
+    by : (o : Taken) → ((t : Standing) → run (n + 1) (xs ++ ys) t ≡ then (run (n + 1 + length xs) ys) (run (n + 1) xs t))
+        → then (run (n + 1) (xs ++ ys)) o ≡ then (run (n + length (x ∷ xs)) ys) (then (run (n + 1) xs) o)
     by (Stops f) rec = refl
     by (Goes t) rec = let k : n + 1 + length xs ≡ n + length (x ∷ xs) = omega arith in rec t ∙ ap (λ k. then (run k ys) (run (n + 1) xs t)) k
 
@@ -37,13 +41,13 @@ then_none : (n : ℕ) (o : Taken) → then (run n []) o ≡ o
 then_none n (Goes t) = refl
 then_none n (Stops f) = refl
 
-too_long : (n : ℕ) (bytes : List ℕ) (size : ℕ) (s : Standing) → ltb most_line (length bytes) ≡ true → taken n bytes size s ≡ Stops (LineTooLong n)
+too_long : (n : ℕ) (bytes : List ℕ) (size : ℕ) (s : Standing) → ltb LINE_BYTES (length bytes) ≡ true → taken n bytes size s ≡ Stops (LineTooLong n)
 too_long n bytes size s h = rw h refl
 
-next_is : (n k : ℕ) → n ≤ k + 1 → k ≤ most_text → next n ≡ n + 1
+next_is : (n k : ℕ) → n ≤ k + 1 → k ≤ FILE_BYTES → next n ≡ n + 1
 next_is n k h g = omega arith
 
-not_long : (k : ℕ) → k ≤ 512 → ltb 512 k ≡ false
+not_long : (k : ℕ) → k ≤ LINE_BYTES → ltb LINE_BYTES k ≡ false
 not_long k h = grind (arith, nat_tests)
 
 -- where bytes take a reader, the whole text's lines take it
@@ -51,36 +55,51 @@ whole_by : (text : List ℕ) (m : Mind) → FedTo 1 text first m → finished m 
 whole_by text (Reads k l t) far = by l far.rest refl
   where
     lines : run 1 (lines_of text) first ≡ run (1 + length (ended_lines text)) (open_line (behind_feeds text)) t
-    lines = run-append 1 (ended_lines text) (open_line (behind_feeds text)) first ∙ ap (then (run (1 + length (ended_lines text)) (open_line (behind_feeds text)))) far.lines
+    lines =
+        run-append 1 (ended_lines text) (open_line (behind_feeds text)) first
+        ∙ ap (then (run (1 + length (ended_lines text)) (open_line (behind_feeds text)))) far.lines
 
     by : (r : List ℕ) → behind_feeds text ≡ r → l ≡ r → finished (Reads k l t) ≡ at_end (length (lines_of text) + 1) (run 1 (lines_of text) first)
     by [] e f =
-        let numbered : k ≡ length (lines_of text) + 1 = omega (arith, far.number, length-append (ended_lines text) (open_line (behind_feeds text)), ap (λ x. length (open_line x)) e) in
-        ap (λ x. finished (Reads k x t)) f ∙ ap (λ x. at_end x (Goes t)) numbered ∙ ap (at_end (length (lines_of text) + 1)) (sym (lines ∙ ap (λ x. run (1 + length (ended_lines text)) (open_line x) t) e))
+        let numbered : k ≡ length (lines_of text) + 1 =
+        omega (arith, far.number, length-append (ended_lines text) (open_line (behind_feeds text)), ap (λ x. length (open_line x)) e) in
+        ap (λ x. finished (Reads k x t)) f
+        ∙ ap (λ x. at_end x (Goes t)) numbered
+        ∙ ap (at_end (length (lines_of text) + 1)) (sym (lines ∙ ap (λ x. run (1 + length (ended_lines text)) (open_line x) t) e))
     by (b ∷ bs) e f =
-        let numbered : next k ≡ length (lines_of text) + 1 = next_is k t.place.bytes far.few far.within ∙ omega (arith, far.number, length-append (ended_lines text) (open_line (behind_feeds text)), ap (λ x. length (open_line x)) e) in
+        let numbered : next k ≡ length (lines_of text) + 1 =
+        next_is k t.place.bytes far.few far.within
+        ∙ omega (arith, far.number, length-append (ended_lines text) (open_line (behind_feeds text)), ap (λ x. length (open_line x)) e) in
         ap (λ x. finished (Reads k x t)) f
         ∙ ap (λ x. at_end x (taken k (b ∷ bs) (length (b ∷ bs)) t)) numbered
         ∙ ap (λ x. at_end (length (lines_of text) + 1) (taken x (b ∷ bs) (length (b ∷ bs)) t)) far.number
-        ∙ ap (at_end (length (lines_of text) + 1)) (sym (lines ∙ ap (λ x. run (1 + length (ended_lines text)) (open_line x) t) e ∙ then_none (1 + length (ended_lines text) + 1) (taken (1 + length (ended_lines text)) (b ∷ bs) (length (b ∷ bs)) t)))
+        ∙ ap (at_end (length (lines_of text) + 1))
+        (sym (lines ∙ ap (λ x. run (1 + length (ended_lines text)) (open_line x) t) e ∙ then_none (1 + length (ended_lines text) + 1) (taken (1 + length (ended_lines text)) (b ∷ bs) (length (b ∷ bs)) t)))
 whole_by text (Refuses f) far = by (run 1 (ended_lines text) first) refl far
   where
-    lines : (o : Taken) → run 1 (ended_lines text) first ≡ o → run 1 (lines_of text) first ≡ then (run (1 + length (ended_lines text)) (open_line (behind_feeds text))) o
-    lines o e = run-append 1 (ended_lines text) (open_line (behind_feeds text)) first ∙ ap (then (run (1 + length (ended_lines text)) (open_line (behind_feeds text)))) e
+    lines : (o : Taken) → run 1 (ended_lines text) first ≡ o
+        → run 1 (lines_of text) first ≡ then (run (1 + length (ended_lines text)) (open_line (behind_feeds text))) o
+    lines o e =
+        run-append 1 (ended_lines text) (open_line (behind_feeds text)) first
+        ∙ ap (then (run (1 + length (ended_lines text)) (open_line (behind_feeds text)))) e
 
-    long : (t : Standing) (r : List ℕ) → behind_feeds text ≡ r → run 1 (ended_lines text) first ≡ Goes t → (b : Bool) → ltb most_line (length r) ≡ b → cond b (Some (LineTooLong (1 + length (ended_lines text)))) None ≡ Some f → Rejects f ≡ at_end (length (lines_of text) + 1) (run 1 (lines_of text) first)
+    long : (t : Standing) (r : List ℕ) → behind_feeds text ≡ r → run 1 (ended_lines text) first ≡ Goes t → (b : Bool) → ltb LINE_BYTES (length r) ≡ b
+        → cond b (Some (LineTooLong (1 + length (ended_lines text)))) None ≡ Some f
+        → Rejects f ≡ at_end (length (lines_of text) + 1) (run 1 (lines_of text) first)
     long t r e g false h i = absurd cc
     long t [] e g true h i = absurd cc
     long t (b ∷ bs) e g true h i =
         let same : LineTooLong (1 + length (ended_lines text)) ≡ f = cc in
         ap Rejects (sym same)
-        ∙ ap (at_end (length (lines_of text) + 1)) (sym (lines (Goes t) g ∙ ap (λ x. run (1 + length (ended_lines text)) (open_line x) t) e ∙ then_none (1 + length (ended_lines text) + 1) (taken (1 + length (ended_lines text)) (b ∷ bs) (length (b ∷ bs)) t) ∙ too_long (1 + length (ended_lines text)) (b ∷ bs) (length (b ∷ bs)) t h))
+        ∙ ap (at_end (length (lines_of text) + 1))
+        (sym (lines (Goes t) g ∙ ap (λ x. run (1 + length (ended_lines text)) (open_line x) t) e ∙ then_none (1 + length (ended_lines text) + 1) (taken (1 + length (ended_lines text)) (b ∷ bs) (length (b ∷ bs)) t) ∙ too_long (1 + length (ended_lines text)) (b ∷ bs) (length (b ∷ bs)) t h))
 
-    by : (o : Taken) → run 1 (ended_lines text) first ≡ o → early_run o (1 + length (ended_lines text)) (behind_feeds text) ≡ Some f → Rejects f ≡ at_end (length (lines_of text) + 1) (run 1 (lines_of text) first)
+    by : (o : Taken) → run 1 (ended_lines text) first ≡ o → early_run o (1 + length (ended_lines text)) (behind_feeds text) ≡ Some f
+        → Rejects f ≡ at_end (length (lines_of text) + 1) (run 1 (lines_of text) first)
     by (Stops g) e h = let same : g ≡ f = cc in ap Rejects (sym same) ∙ ap (at_end (length (lines_of text) + 1)) (sym (lines (Stops g) e))
-    by (Goes t) e h = long t (behind_feeds text) refl e (ltb most_line (length (behind_feeds text))) refl h
+    by (Goes t) e h = long t (behind_feeds text) refl e (ltb LINE_BYTES (length (behind_feeds text))) refl h
 
-fed_whole : (text : List ℕ) → FedTo 1 text first (fed fresh text)
+pub fed_whole : (text : List ℕ) → FedTo 1 text first (fed fresh text)
 fed_whole text = fed_to text [] 1 first (All-nil (λ x. x ≢ 10)) (lit≤ tt) (lit≤ tt) (lit≤ tt)
 
 -- an answer that is the verdict of the text
@@ -89,7 +108,8 @@ IsVerdict text (Accepts p) = IsReadAs text p × IsWithin p
 IsVerdict text (Rejects f) = text_fault text ≡ Some f
 
 -- a text whose lines lead to the space between rungs is a project's
-accepted : (text : List ℕ) (t : Standing) (gs : List Rung) (chip : Target) → run 1 (lines_of text) first ≡ Goes t → t.place.site ≡ site.Between → t.tree ≡ Closed gs → t.settings.target ≡ Some chip → IsReadAs text (project_of t.settings chip gs) × IsWithin (project_of t.settings chip gs)
+accepted : (text : List ℕ) (t : Standing) (gs : List Rung) (chip : Target) → run 1 (lines_of text) first ≡ Goes t → t.place.site ≡ site.Between
+    → t.tree ≡ Closed gs → t.settings.target ≡ Some chip → IsReadAs text (project_of t.settings chip gs) × IsWithin (project_of t.settings chip gs)
 accepted text t gs chip h e f g =
     let lines = run_goes 1 (lines_of text) first t h in
     let k = told 1 (lines_of text) first t [] at_first h in
@@ -97,7 +117,10 @@ accepted text t gs chip h e f g =
     let counts : Counts t.place (Closed gs) = subst (Counts t.place) f k.knows.counts in
     let counted = rungs_counted gs in (
       record {
-        faultless = ap (λ x. or_else x (end_fault (behind_all start 1 (lines_of text)).site (length (lines_of text) + 1))) lines.0 ∙ ap (λ x. end_fault x.site (length (lines_of text) + 1)) lines.1 ∙ ap (λ x. end_fault x (length (lines_of text) + 1)) e;
+        faultless =
+            ap (λ x. or_else x (end_fault (behind_all start 1 (lines_of text)).site (length (lines_of text) + 1))) lines.0
+            ∙ ap (λ x. end_fault x.site (length (lines_of text) + 1)) lines.1
+            ∙ ap (λ x. end_fault x (length (lines_of text) + 1)) e;
         project = record {
           items = body.0.items;
           spelled = k.said ∙ ap (map Is) (body.0.spelled ∙ ap (λ x. Magic ∷ (spelled_items body.0.items ++ Header header.Program ∷ map Body (so_far x))) f);
@@ -107,7 +130,11 @@ accepted text t gs chip h e f g =
       },
       record {
         target = subst IsBuilt (sym k.knows.target ∙ g) k.knows.built;
-        cycle = k.knows.timed;
+        cycle = k.knows.read.cycle;
+        crystal = k.knows.read.crystal;
+        baud = k.knows.read.baud;
+        pins = omega (arith, k.knows.pins.pins, k.knows.pins.few_pins);
+        assigned = k.knows.read.assigned;
         rungs = omega (arith, counted.begins, counts.rungs, counts.few_rungs);
         elements = omega (arith, ap length counted.elements, counts.elements, counts.few_elements);
         forms = omega (arith, counted.opens, counts.openings, counts.few_openings);
@@ -118,19 +145,26 @@ accepted text t gs chip h e f g =
 
 -- the lines lead a reader to the verdict of the text
 verdict_by : (text : List ℕ) (o : Taken) → run 1 (lines_of text) first ≡ o → IsVerdict text (at_end (length (lines_of text) + 1) o)
-verdict_by text (Stops f) h = ap (λ x. or_else x (end_fault (behind_all start 1 (lines_of text)).site (length (lines_of text) + 1))) (run_stops 1 (lines_of text) first f h)
+verdict_by text (Stops f) h =
+    ap (λ x. or_else x (end_fault (behind_all start 1 (lines_of text)).site (length (lines_of text) + 1))) (run_stops 1 (lines_of text) first f h)
 verdict_by text (Goes t) h = by t.place.site refl
   where
     lines : (first_fault start 1 (lines_of text) ≡ None) × (behind_all start 1 (lines_of text) ≡ t.place)
     lines = run_goes 1 (lines_of text) first t h
 
     ends : (x : Site) → t.place.site ≡ x → text_fault text ≡ end_fault x (length (lines_of text) + 1)
-    ends x e = ap (λ x. or_else x (end_fault (behind_all start 1 (lines_of text)).site (length (lines_of text) + 1))) lines.0 ∙ ap (λ x. end_fault x.site (length (lines_of text) + 1)) lines.1 ∙ ap (λ x. end_fault x (length (lines_of text) + 1)) e
+    ends x e =
+        ap (λ x. or_else x (end_fault (behind_all start 1 (lines_of text)).site (length (lines_of text) + 1))) lines.0
+        ∙ ap (λ x. end_fault x.site (length (lines_of text) + 1)) lines.1
+        ∙ ap (λ x. end_fault x (length (lines_of text) + 1)) e
 
-    refused : (x : Site) (f : ProjectFault) → t.place.site ≡ x → end_fault x (length (lines_of text) + 1) ≡ Some f → IsVerdict text (at_end (length (lines_of text) + 1) (Goes t))
-    refused x f e g = subst (λ y. IsVerdict text (ended_as y (length (lines_of text) + 1) t)) (sym (ap (λ x. end_fault x (length (lines_of text) + 1)) e ∙ g)) (ends x e ∙ g)
+    refused : (x : Site) (f : ProjectFault) → t.place.site ≡ x → end_fault x (length (lines_of text) + 1) ≡ Some f
+        → IsVerdict text (at_end (length (lines_of text) + 1) (Goes t))
+    refused x f e g =
+        subst (λ y. IsVerdict text (ended_as y (length (lines_of text) + 1) t)) (sym (ap (λ x. end_fault x (length (lines_of text) + 1)) e ∙ g)) (ends x e ∙ g)
 
-    between : t.place.site ≡ site.Between → (d : Tree) (c : Option Target) → t.tree ≡ d → t.settings.target ≡ c → IsVerdict text (project_at t.settings d c (length (lines_of text) + 1))
+    between : t.place.site ≡ site.Between → (d : Tree) (c : Option Target) → t.tree ≡ d → t.settings.target ≡ c
+        → IsVerdict text (project_at t.settings d c (length (lines_of text) + 1))
     between e (Closed gs) (Some chip) f g = accepted text t gs chip h e f g
     between e (Closed gs) None f g =
         let k = told 1 (lines_of text) first t [] at_first h in
@@ -147,7 +181,9 @@ verdict_by text (Goes t) h = by t.place.site refl
     by site.Header e = refused site.Header _ e refl
     by site.Pins e = refused site.Pins _ e refl
     by site.Inside e = refused site.Inside _ e refl
-    by site.Between e = subst (λ y. IsVerdict text (ended_as y (length (lines_of text) + 1) t)) (sym (ap (λ x. end_fault x (length (lines_of text) + 1)) e)) (between e t.tree t.settings.target refl refl)
+    by site.Between e =
+        subst (λ y. IsVerdict text (ended_as y (length (lines_of text) + 1) t)) (sym (ap (λ x. end_fault x (length (lines_of text) + 1)) e))
+        (between e t.tree t.settings.target refl refl)
 
 pub verdict : (text : List ℕ) → IsVerdict text (finished (fed fresh text))
 verdict text = subst (IsVerdict text) (sym (whole_by text (fed fresh text) (fed_whole text))) (verdict_by text (run 1 (lines_of text) first) refl)
@@ -165,22 +201,41 @@ early_by text (Reads k l t) far =
 early_by text (Refuses f) far = by (run 1 (ended_lines text) first) refl far
   where
     by : (o : Taken) → run 1 (ended_lines text) first ≡ o → early_run o (1 + length (ended_lines text)) (behind_feeds text) ≡ Some f → early_fault text ≡ Some f
-    by (Stops g) e h = let same : g ≡ f = cc in ap (λ x. or_else x (early_length (length (ended_lines text) + 1) (behind_feeds text))) (run_stops 1 (ended_lines text) first g e) ∙ ap Some same
+    by (Stops g) e h =
+        let same : g ≡ f = cc in
+        ap (λ x. or_else x (early_length (length (ended_lines text) + 1) (behind_feeds text))) (run_stops 1 (ended_lines text) first g e)
+        ∙ ap Some same
     by (Goes t) e h =
         let k : length (ended_lines text) + 1 ≡ 1 + length (ended_lines text) = omega arith in
-        ap (λ x. or_else x (early_length (length (ended_lines text) + 1) (behind_feeds text))) (run_goes 1 (ended_lines text) first t e).0 ∙ ap (λ k. early_length k (behind_feeds text)) k ∙ h
+        ap (λ x. or_else x (early_length (length (ended_lines text) + 1) (behind_feeds text))) (run_goes 1 (ended_lines text) first t e).0
+        ∙ ap (λ k. early_length k (behind_feeds text)) k
+        ∙ h
 
 pub early : (text : List ℕ) → IsEarly text (fed fresh text)
 early text = early_by text (fed fresh text) (fed_whole text)
 
--- what is refused early is the fault of the text
-pub early_is_final : (text : List ℕ) (f : ProjectFault) → early_fault text ≡ Some f → text_fault text ≡ Some f
-early_is_final text f h = by (fed fresh text) (early text) (verdict text)
+-- what is refused early is the fault of the text, whatever follows
+pub early_stays : (text more : List ℕ) (f : ProjectFault) → early_fault text ≡ Some f → text_fault (text ++ more) ≡ Some f
+early_stays text more f h = by (fed fresh text) refl (early text)
   where
-    by : (m : Mind) → IsEarly text m → IsVerdict text (finished m) → text_fault text ≡ Some f
-    by (Reads k l s) e v = absurd cc
-    by (Refuses g) e v = let same : g ≡ f = cc in v ∙ ap Some same
+    by : (m : Mind) → fed fresh text ≡ m → IsEarly text m → text_fault (text ++ more) ≡ Some f
+    by (Reads k l s) e g = absurd cc
+    by (Refuses g) e k =
+        let same : g ≡ f = cc in
+        let refused = fed_append fresh text more ∙ ap (λ m. fed m more) e ∙ fed_refused g more in
+        subst (λ m. IsVerdict (text ++ more) (finished m)) refused (verdict (text ++ more)) ∙ ap Some same
+
+pub early_is_final : (text : List ℕ) (f : ProjectFault) → early_fault text ≡ Some f → text_fault text ≡ Some f
+early_is_final text f h = subst (λ t. text_fault t ≡ Some f) (append-nil text) (early_stays text [] f h)
+
+-- a text without a fault has a project
+pub has_project : (text : List ℕ) → text_fault text ≡ None → (p : Project) × IsReadAs text p × IsWithin p
+has_project text h = by (finished (fed fresh text)) (verdict text)
+  where
+    by : (v : Verdict) → IsVerdict text v → (p : Project) × IsReadAs text p × IsWithin p
+    by (Accepts p) k = (p, k.0, k.1)
+    by (Rejects f) k = absurd cc
 
 -- nothing behind the first byte past the limit counts
 pub judged_again : (text : List ℕ) → judged (judged text) ≡ judged text
-judged_again text = take_all 8388609 (take 8388609 text) (omega (arith, length-take 8388609 text))
+judged_again text = take_all (FILE_BYTES + 1) (take (FILE_BYTES + 1) text) (omega (arith, length-take (FILE_BYTES + 1) text))

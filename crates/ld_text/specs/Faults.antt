@@ -4,6 +4,8 @@ use Rattle.chip_tables.specs.declared.target.Target.{Target}
 use Rattle.chip_tables.specs.declared.target.Target.TheVariants.{Interp}
 use Rattle.ladder_tree.specs.declared.fault.ProjectFault.{ProjectFault}
 use Rattle.ladder_tree.specs.declared.fault.ProjectFault.TheVariants as fault
+use Rattle.texts.specs.declared.limits.TheConstants.{LINE_BYTES, FILE_BYTES}
+use Rattle.ladder_tree.specs.declared.limits.TheConstants.{DEPTH, RUNGS, ELEMENTS, OPENINGS, PIN_LINES}
 use Rattle.ld_line.specs.Tokens.{tokens}
 use Rattle.ld_line.specs.Words.{word_of, is_built, is_target_built}
 use Rattle.ld_line.specs.declared.said.Said.{Said}
@@ -20,24 +22,18 @@ use Rattle.ld_text.specs.declared.place.Site.TheVariants as site
 use Rattle.ld_text.specs.Lines.{Line, size_of}
 use Rattle.ld_text.specs.Place.{said_at, behind}
 
--- bytes of a line
-abbrev pub most_line : ℕ
-most_line = 512
-
--- bytes of a text
-abbrev pub most_text : ℕ
-most_text = 8388608
-
--- SERIES and PARALLELs in one another
-abbrev pub most_depth : ℕ
-most_depth = 16
-
-abbrev pub most_rungs : ℕ
-most_rungs = 500
-
--- elements, SERIES and PARALLELs, pin lines: so many of each
-abbrev pub most_lines : ℕ
-most_lines = 4000
+-- the line of a fault of a text; the faults without a line are none of a text
+abbrev pub line_of : ProjectFault → ℕ
+line_of (fault.NotProject line) = line
+line_of (fault.BadLine line) = line
+line_of (fault.LineTooLong line) = line
+line_of (fault.TooDeep line) = line
+line_of (fault.TooMany line) = line
+line_of (fault.Unclosed line) = line
+line_of (fault.UnknownChip line) = line
+line_of (fault.NumberRange line) = line
+line_of (fault.NotBuilt line) = line
+line_of _ = 0
 
 abbrev pub is_first : Site → Bool
 is_first site.First = true
@@ -82,15 +78,15 @@ is_chipless None (Is (Header header.Program)) = true
 is_chipless _ _ = false
 
 abbrev pub is_too_deep : Place → Said Form → Bool
-is_too_deep p (Is (Body (mark.Open c))) = nat_le most_depth p.depth
+is_too_deep p (Is (Body (mark.Open c))) = nat_le DEPTH p.depth
 is_too_deep p _ = false
 
 -- with the line there are more of its kind than there may be
 abbrev pub is_one_too_many : Place → Said Form → Bool
-is_one_too_many p (Is (Body mark.Rung)) = nat_le most_rungs p.rungs
-is_one_too_many p (Is (Body (mark.Element l))) = nat_le most_lines p.elements
-is_one_too_many p (Is (Body (mark.Open c))) = nat_le most_lines p.openings
-is_one_too_many p (Is (Pins (pins.Pin line))) = nat_le most_lines p.pins
+is_one_too_many p (Is (Body mark.Rung)) = nat_le RUNGS p.rungs
+is_one_too_many p (Is (Body (mark.Element l))) = nat_le ELEMENTS p.elements
+is_one_too_many p (Is (Body (mark.Open c))) = nat_le OPENINGS p.openings
+is_one_too_many p (Is (Pins (pins.Pin line))) = nat_le PIN_LINES p.pins
 is_one_too_many p _ = false
 
 -- a row of the table of faults
@@ -110,14 +106,14 @@ first_row (r ∷ rs) = if r.holds then Some r.fault else first_row rs
 -- bytes of the text, and says this.
 abbrev pub fault_of : Place → ℕ → List ℕ → ℕ → Said Form → Option ProjectFault
 fault_of p number bytes size said = first_row (
-    row (nat_lt most_line (length bytes)) (fault.LineTooLong number)
+    row (nat_lt LINE_BYTES (length bytes)) (fault.LineTooLong number)
     ∷ row (is_first p.site && is_bad said) (fault.NotProject number)
     ∷ row (not (is_first p.site) && (begins_unbuilt p.target (tokens bytes) || names_unbuilt said)) (fault.NotBuilt number)
     ∷ row (is_bad said) (fault.BadLine number)
     ∷ row (is_chipless p.target said) (fault.UnknownChip number)
     ∷ row (is_out_of_range said) (fault.NumberRange number)
     ∷ row (is_too_deep p said) (fault.TooDeep number)
-    ∷ row (is_one_too_many p said || nat_lt most_text (p.bytes + size)) (fault.TooMany number)
+    ∷ row (is_one_too_many p said || nat_lt FILE_BYTES (p.bytes + size)) (fault.TooMany number)
     ∷ [])
 
 -- the fault of a line at its place

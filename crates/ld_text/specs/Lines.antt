@@ -1,6 +1,6 @@
 -- The lines of a project text, each with whether a line feed (10) ends it.
 use Rattle.std.specs.Prelude.{ℕ, ◌+◌, Bool, true, false, List, [], ◌∷◌, ◌++◌, length, if◌then◌else◌}
-use Rattle.ld_base.specs.Lines.{pieces}
+use Rattle.texts.specs.Lines.{pieces}
 
 pub record Line : Type 0 where
   pub bytes : List ℕ

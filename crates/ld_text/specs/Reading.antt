@@ -6,6 +6,8 @@ use Rattle.ladder_tree.specs.declared.fault.ProjectFault.TheVariants.{BadLine, N
 use Rattle.ladder_tree.specs.declared.project.Node.{Node, Leaf, Series, Parallel}
 use Rattle.ladder_tree.specs.declared.project.Project.{Project}
 use Rattle.ladder_tree.specs.declared.project.Rung.{Rung}
+use Rattle.texts.specs.declared.limits.TheConstants.{LINE_BYTES, FILE_BYTES}
+use Rattle.ladder_tree.specs.declared.limits.TheConstants.{DEPTH, RUNGS, ELEMENTS, OPENINGS, PIN_LINES}
 use Rattle.ld_line.specs.declared.said.Said.{Said}
 use Rattle.ld_line.specs.declared.said.Said.TheVariants.{Bad, Range, Is}
 use Rattle.ld_line.specs.declared.header.HeaderLine.TheVariants as header
@@ -29,7 +31,7 @@ use Rattle.ld_text.specs.declared.reader.State.{State}
 use Rattle.ld_text.specs.declared.reader.State.TheVariants as state
 use Rattle.ld_text.specs.declared.reader.Reader.{Reader}
 use Rattle.ld_text.specs.Place.{start, said_in, behind_said}
-use Rattle.ld_text.specs.Faults.{most_line, most_text, most_depth, most_rungs, most_lines, fault_of, end_fault}
+use Rattle.ld_text.specs.Faults.{fault_of, end_fault}
 use Rattle.ld_text.specs.Spelling.{defaults}
 use Rattle.ld_text.specs.Text.{project_of}
 
@@ -80,11 +82,11 @@ settings_behind s (Body m) = s
 
 -- there may be one more of the line's kind
 abbrev pub RoomFor : Place → Form → Type 0
-RoomFor p (Body mark.Rung) = p.rungs < most_rungs
-RoomFor p (Body (mark.Open c)) = (p.depth < most_depth) × (p.openings < most_lines)
-RoomFor p (Body (mark.Element l)) = p.elements < most_lines
+RoomFor p (Body mark.Rung) = p.rungs < RUNGS
+RoomFor p (Body (mark.Open c)) = (p.depth < DEPTH) × (p.openings < OPENINGS)
+RoomFor p (Body (mark.Element l)) = p.elements < ELEMENTS
 RoomFor p (Body mark.End) = Unit {0}
-RoomFor p (Pins (pins.Pin l)) = p.pins < most_lines
+RoomFor p (Pins (pins.Pin l)) = p.pins < PIN_LINES
 RoomFor p (Pins pins.End) = Unit {0}
 RoomFor p Blank = Unit {0}
 RoomFor p Magic = Unit {0}
@@ -92,7 +94,7 @@ RoomFor p (Header h) = Unit {0}
 
 -- and for so many bytes
 abbrev pub HasRoom : Place → ℕ → Form → Type 0
-HasRoom p size form = (p.bytes + size ≤ most_text) × RoomFor p form
+HasRoom p size form = (p.bytes + size ≤ FILE_BYTES) × RoomFor p form
 
 -- what was read, and where the next line stands
 pub record Standing : Type 0 where
@@ -139,7 +141,7 @@ line_done number (Goes s) = Reads (next number) [] s
 line_done number (Stops f) = Refuses f
 
 abbrev pub pushed : ℕ → List ℕ → Standing → ℕ → Mind
-pushed number line s byte = if nat_lt (length line) most_line then Reads number (line ++ byte ∷ []) s else Refuses (LineTooLong number)
+pushed number line s byte = if nat_lt (length line) LINE_BYTES then Reads number (line ++ byte ∷ []) s else Refuses (LineTooLong number)
 
 abbrev pub fed_byte : Mind → ℕ → Mind
 fed_byte (Refuses f) byte = Refuses f
@@ -224,3 +226,8 @@ abbrev pub failure_of : State → Option TextError
 failure_of (state.Reads c) = None
 failure_of (state.Refused f) = Some (error.Refused f)
 failure_of state.Exhausted = Some (error.Memory alloc_error)
+
+-- Behind an error a reader still stands where the text takes it, but where memory was wanting.
+abbrev pub StandsRefused : Reader → List ℕ → TextError → Type 0
+StandsRefused r text (error.Refused f) = Stands r text
+StandsRefused r text (error.Memory e) = r.state ≡ state.Exhausted

@@ -1,10 +1,12 @@
 -- What project a text stands for, and why a text is refused.
-use Rattle.std.specs.Prelude.{◌≡◌, ℕ, ◌+◌, List, [], ◌∷◌, map, Some, None, Option, take, length, nat_lt, if◌then◌else◌, ⊤}
+use Rattle.std.specs.Prelude.{◌≡◌, ℕ, ◌+◌, ◌<◌, ◌≤◌, List, [], ◌∷◌, map, Some, None, Option, length, nat_lt, if◌then◌else◌, ⊤}
 use Rattle.chip_tables.specs.declared.target.Target.{Target}
 use Rattle.ladder_tree.specs.declared.fault.ProjectFault.{ProjectFault}
 use Rattle.ladder_tree.specs.declared.fault.ProjectFault.TheVariants.{LineTooLong}
 use Rattle.ladder_tree.specs.declared.project.Project.{Project}
 use Rattle.ladder_tree.specs.declared.project.Rung.{Rung}
+use Rattle.texts.specs.Limits as limits
+use Rattle.texts.specs.declared.limits.TheConstants.{LINE_BYTES, FILE_BYTES}
 use Rattle.ld_line.specs.declared.said.Said.{Said}
 use Rattle.ld_line.specs.declared.said.Said.TheVariants.{Is}
 use Rattle.ld_text.specs.declared.draft.Settings.{Settings}
@@ -15,7 +17,7 @@ use Rattle.ld_text.specs.declared.form.Form.TheVariants.{Blank}
 use Rattle.ld_text.specs.declared.place.Place.{Place}
 use Rattle.ld_text.specs.Lines.{Line, ended_lines, behind_feeds, lines_of}
 use Rattle.ld_text.specs.Place.{start, said_at, behind, behind_all}
-use Rattle.ld_text.specs.Faults.{most_line, most_text, or_else, first_fault, end_fault}
+use Rattle.ld_text.specs.Faults.{line_of, or_else, first_fault, end_fault}
 use Rattle.ld_text.specs.Spelling.{Item, spelled_project, defaults, with_items}
 
 -- blank lines say nothing
@@ -50,7 +52,7 @@ pub record IsReadAs (text : List ℕ) (p : Project) : Type 0 where
 
 -- a line that is not ended is looked at early where it is too long already
 abbrev pub early_length : ℕ → List ℕ → Option ProjectFault
-early_length number bytes = if nat_lt most_line (length bytes) then Some (LineTooLong number) else None
+early_length number bytes = if nat_lt LINE_BYTES (length bytes) then Some (LineTooLong number) else None
 
 -- the first fault of the lines that are ended, or that what stands behind them is too long
 abbrev pub early_fault : List ℕ → Option ProjectFault
@@ -63,4 +65,14 @@ IsCause found (Refused f) = found ≡ Some f
 
 -- what is read of a text: its limit, and one byte more
 abbrev pub judged : List ℕ → List ℕ
-judged text = take (most_text + 1) text
+judged text = limits.judged FILE_BYTES text
+
+-- The whole text and what is read of it are refused, both at one line. In the last line that is read, which is cut, the fault may be another.
+pub record IsRefusedAlike (text : List ℕ) : Type 0 where
+  pub whole : ProjectFault
+  pub part : ProjectFault
+  pub refused : text_fault text ≡ Some whole
+  pub cut : text_fault (judged text) ≡ Some part
+  pub line : line_of part ≡ line_of whole
+  pub within : line_of whole ≤ length (lines_of (judged text))
+  pub earlier : line_of whole < length (lines_of (judged text)) → part ≡ whole

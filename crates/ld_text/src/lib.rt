@@ -9,5 +9,3 @@ mod place;
 pub mod read;
 pub mod reader;
 mod stand;
-#[cfg(test)]
-mod tests;

@@ -11,24 +11,12 @@ ghost use Rattle.ld_text.specs.Reading.{HasRoom, RoomFor};
 use crate::form::{Form, Heard, Mark};
 use chip_tables::Target;
 use ladder_tree::fault::ProjectFault;
+use ladder_tree::limits::{DEPTH, ELEMENTS, OPENINGS, PIN_LINES, RUNGS};
 use ld_line::header::HeaderLine;
 use ld_line::pins::PinsLine;
 use ld_line::said::Said;
 use ld_line::word::is_target_built;
-
-/// How many bytes a line may have, without its line feed.
-pub const LINE_LIMIT: usize = 512;
-
-/// How many bytes a project text may have.
-pub const TEXT_LIMIT: u32 = 8_388_608;
-
-/// How many SERIES and PARALLELs may stand in one another.
-const DEEPEST: u32 = 16;
-
-const MOST_RUNGS: u32 = 500;
-
-/// How many elements, SERIES and PARALLELs, and pin lines there may be, each.
-const MOST_LINES: u32 = 4_000;
+use texts::limits::{FILE_BYTES, LINE_BYTES};
 
 /// The part of a project text that a line stands in.
 #[derive(Clone, Copy, Debug, PartialEq, Eq)]
@@ -109,7 +97,7 @@ impl Place {
         ensures { result ≡ is_too_deep self.now said.now }
     {
         match said {
-            Said::Is(Form::Body(Mark::Open(_))) => self.depth >= DEEPEST,
+            Said::Is(Form::Body(Mark::Open(_))) => self.depth >= DEPTH,
             _ => false,
         }
     }
@@ -119,10 +107,10 @@ impl Place {
         ensures { result ≡ is_one_too_many self.now said.now }
     {
         match said {
-            Said::Is(Form::Body(Mark::Rung)) => self.rungs >= MOST_RUNGS,
-            Said::Is(Form::Body(Mark::Element(_))) => self.elements >= MOST_LINES,
-            Said::Is(Form::Body(Mark::Open(_))) => self.openings >= MOST_LINES,
-            Said::Is(Form::Pins(PinsLine::Pin(_))) => self.pins >= MOST_LINES,
+            Said::Is(Form::Body(Mark::Rung)) => self.rungs >= RUNGS,
+            Said::Is(Form::Body(Mark::Element(_))) => self.elements >= ELEMENTS,
+            Said::Is(Form::Body(Mark::Open(_))) => self.openings >= OPENINGS,
+            Said::Is(Form::Pins(PinsLine::Pin(_))) => self.pins >= PIN_LINES,
             _ => false,
         }
     }
@@ -136,7 +124,7 @@ impl Place {
         let line_number = number;
         let is_first = self.site == Site::First;
         let said = &heard.said;
-        if line.len() > LINE_LIMIT {
+        if line.len() > LINE_BYTES {
             Some(ProjectFault::LineTooLong { line: line_number })
         } else if is_first && is_bad(said) {
             Some(ProjectFault::NotProject { line: line_number })
@@ -150,7 +138,9 @@ impl Place {
             Some(ProjectFault::NumberRange { line: line_number })
         } else if self.is_too_deep(said) {
             Some(ProjectFault::TooDeep { line: line_number })
-        } else if self.is_one_too_many(said) || self.bytes.saturating_add(size) > TEXT_LIMIT {
+        } else if self.is_one_too_many(said)
+            || self.bytes.saturating_add(size) as usize > FILE_BYTES
+        {
             Some(ProjectFault::TooMany { line: line_number })
         } else {
             None

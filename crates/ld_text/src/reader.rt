@@ -1,9 +1,9 @@
 //! Reading a project text that comes in pieces.
 
-ghost use Rattle.std.specs.Prelude.{◌≡◌, ◌==◌, ◌⊎◌, ℕ, [], ◌++◌, false, true, List, is_some, IfOk, OnOk, IfErr, OnErr, Some, None, Err};
+ghost use Rattle.std.specs.Prelude.{◌≡◌, ◌==◌, ◌⊎◌, ℕ, [], ◌++◌, false, List, IfOk, OnOk, IfErr, Some, None, Err};
 ghost use Rattle.ld_text.specs.declared.fault.TextError.TheVariants as error;
 ghost use Rattle.ld_text.specs.declared.reader.State.TheVariants as state;
-ghost use Rattle.ld_text.specs.Reading.{Mind, Accepts, fed, fed_byte, finished, fresh, mind_of, mind_at, failure_of, state_behind, IsRefused, IsRejected, Stands};
+ghost use Rattle.ld_text.specs.Reading.{Mind, Accepts, fed, fed_byte, finished, fresh, mind_of, mind_at, failure_of, state_behind, IsRefused, IsRejected, Stands, StandsRefused};
 ghost use Rattle.ld_text.specs.Text.{IsReadAs, IsCause, text_fault, early_fault};
 ghost use Rattle.ld_text.specs.Within.{IsWithin};
 
@@ -182,6 +182,7 @@ impl Reader {
         ensures stands { (text : List ℕ) → Stands self.old text → OnOk result (Stands self.new (text ++ piece.now)) }
         ensures taken { (text : List ℕ) → Stands self.old text → OnOk result (early_fault (text ++ piece.now) ≡ None) }
         ensures refused { (text : List ℕ) → Stands self.old text → IfErr result (IsCause (early_fault (text ++ piece.now))) }
+        ensures kept { (text : List ℕ) → Stands self.old text → IfErr result (StandsRefused self.new (text ++ piece.now)) }
         ensures fails { IfErr result (λ e. failure_of self.new.state ≡ Some e) }
         ensures failed { (e : TextError) → failure_of self.old.state ≡ Some e → (result ≡ Err e) × (self.new ≡ self.old) }
     {

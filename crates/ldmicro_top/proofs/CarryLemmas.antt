@@ -1,7 +1,7 @@
 -- From each step's promise to the whole one: the text of a lowered project carries it.
 use Rattle.std.proofs.Common.{◌≡◌, ℕ, zero, suc, ◌<◌, ◌≤◌, ℤ, pos, List, [], ◌∷◌, length, map, refl, ap, ◌∙◌, arith}
 use Rattle.std.specs.Prelude.{slice_index_or}
-use Rattle.ld_base.specs.Lines.{lines}
+use Rattle.texts.specs.Lines.{lines}
 use Rattle.ladder_tree.specs.Leaves.{all_leaves}
 use Rattle.ladder_tree.specs.declared.names.Names.{Names}
 use Rattle.ladder_tree.specs.declared.project.Project.{Project}
@@ -17,7 +17,7 @@ use Rattle.int_code.proofs.CountLemmas.{cycle_count}
 use Rattle.ladder_lower.specs.Correct.{Shows, ShowsAll, KeepsHistory}
 use Rattle.ladder_lower.specs.Outcome.{HasSizes}
 use Rattle.interp_code.specs.Program.{IsProgram, read_as}
-use Rattle.interp_code.specs.Refused.{most_bytes}
+use Rattle.texts.specs.declared.limits.TheConstants.{CODE_BYTES}
 use Rattle.ldmicro_top.specs.Carries.{EachEnds, Carries}
 
 -- a cycle executes at most as many operations as there are
@@ -45,7 +45,7 @@ start_shown n p program eeprom sizes = record {
   duty = refl;
 }
 
-pub carried : (p : Project) (program : IntProgram) (code : List ℕ) → IsProgram (lines code) (read_as p.cycle (names_of p.rungs) program) → length code ≤ most_bytes → HasSizes (names_of p.rungs) p program → KeepsHistory (names_of p.rungs) p program.ops → Carries p code (length program.ops)
+pub carried : (p : Project) (program : IntProgram) (code : List ℕ) → IsProgram (lines code) (read_as p.cycle (names_of p.rungs) program) → length code ≤ CODE_BYTES → HasSizes (names_of p.rungs) p program → KeepsHistory (names_of p.rungs) p program.ops → Carries p code (length program.ops)
 carried p program code read within sizes keeps = record {
   program = read_as p.cycle (names_of p.rungs) program;
   read = read;

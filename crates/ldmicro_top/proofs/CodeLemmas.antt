@@ -1,17 +1,20 @@
 -- A text is refused at one line at most, and none that says a program is refused.
-use Rattle.std.proofs.Common.{◌≡◌, ◌⊎◌, inl, inr, ℕ, ◌+◌, ◌-◌, ◌<◌, ◌≤◌, Bool, true, false, List, [], ◌∷◌, ◌++◌, length, take, drop, Some, nat_lt, refl, sym, ap, ◌∙◌, subst, append_assoc, arith}
+use Rattle.std.proofs.Common.{◌≡◌, ◌⊎◌, inl, inr, ℕ, ◌+◌, ◌-◌, ◌<◌, ◌≤◌, Bool, true, false, List, [], ◌∷◌, ◌++◌, length, take, drop, Some, refl, sym, ap, ◌∙◌, subst, append_assoc, arith}
 use Rattle.std.proofs.lemmas.List.{take-append-drop}
 use Rattle.std.proofs.lemmas.Bool.{cases_order}
 use Rattle.std.proofs.lemmas.Bool.Decides.{nat_tests}
 use Rattle.std.proofs.Math.Seq.{take-add}
-use Rattle.ld_base.specs.Lines.{lines}
+use Rattle.texts.specs.Lines.{lines}
+use Rattle.texts.specs.Limits.{judged, is_over}
+use Rattle.texts.specs.declared.limits.TheConstants.{CODE_BYTES}
+use Rattle.texts.proofs.LimitLemmas.{judged_all}
 use Rattle.interp_code.specs.declared.program.InterpProgram.{InterpProgram}
 use Rattle.interp_code.specs.Program.{IsSound, Says, IsProgram, read_as}
-use Rattle.interp_code.specs.Refused.{operations_in, IsBegun, IsRefusedAt, most_bytes, judged}
+use Rattle.interp_code.specs.Refused.{operations_in, IsBegun, IsRefusedAt}
 use Rattle.interp_code.specs.Draft.{Draft, start, read}
 use Rattle.interp_code.specs.Held.{program_of}
 use Rattle.interp_code.proofs.Reading.{ended, says_ends}
-use Rattle.interp_code.proofs.Outcomes.{front_begun, judged_all}
+use Rattle.interp_code.proofs.Outcomes.{front_begun}
 use Rattle.ldmicro_top.specs.Expected.{IsCode, IsCodeRefusedAt}
 
 operations_in-append : (a b : List (List ℕ)) → operations_in (a ++ b) ≡ operations_in a + operations_in b
@@ -75,10 +78,10 @@ program_stands ls p line h r = by r.cause
 pub code_stands : (text : List ℕ) (p : InterpProgram) (line : ℕ) → IsCode text p → IsCodeRefusedAt text line → ⊥
 code_stands text p line h r =
     program_stands (lines text) p line h.0
-    (subst (λ (t : List ℕ). IsRefusedAt false (lines t) line) (judged_all text h.1)
-    (subst (λ (over : Bool). IsRefusedAt over (lines (judged text)) line) not_over r))
+    (subst (λ (t : List ℕ). IsRefusedAt false (lines t) line) (judged_all CODE_BYTES text h.1)
+    (subst (λ (over : Bool). IsRefusedAt over (lines (judged CODE_BYTES text)) line) not_over r))
   where
-    not_over : nat_lt most_bytes (length text) ≡ false
+    not_over : is_over CODE_BYTES text ≡ false
     not_over = let within = h.1 in grind (arith, nat_tests)
 
 -- what was read at the end of a program's text
@@ -101,4 +104,4 @@ one_code text p q h k =
 
 -- a text is refused at one line at most
 pub one_refusal : (text : List ℕ) (a b : ℕ) → IsCodeRefusedAt text a → IsCodeRefusedAt text b → a ≡ b
-one_refusal text a b h k = one_line (nat_lt most_bytes (length text)) (lines (judged text)) a b h k
+one_refusal text a b h k = one_line (is_over CODE_BYTES text) (lines (judged CODE_BYTES text)) a b h k

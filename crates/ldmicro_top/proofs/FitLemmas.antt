@@ -1,5 +1,5 @@
 -- A project that is read and keeps the rules has only numbers that operations hold.
-use Rattle.std.proofs.Common.{◌≡◌, ◌≢◌, ℕ, Bool, true, false, not, ◌&&◌, nat_eq, nat_lt, nat_le, List, [], ◌∷◌, ◌++◌, Option, Some, None, refl, sym, ap, ◌∙◌, arith}
+use Rattle.std.proofs.Common.{◌≡◌, ◌≢◌, ℕ, Bool, true, false, not, ◌&&◌, ◌||◌, nat_eq, nat_lt, nat_le, List, [], ◌∷◌, ◌++◌, Option, Some, None, refl, sym, ap, ◌∙◌, arith}
 use Rattle.std.proofs.lemmas.Bool.Decides.{nat_tests}
 use Rattle.std.specs.Bool.{then_some}
 use Rattle.std.specs.List.{list_all}
@@ -15,8 +15,9 @@ use Rattle.ladder_tree.specs.declared.fault.ProjectFault.{ProjectFault}
 use Rattle.ladder_tree.specs.declared.project.Project.{Project}
 use Rattle.ladder_rules.specs.Places.{Placed, all_placed, spots_behind}
 use Rattle.ladder_rules.specs.Rules.{is_long, fault_of}
-use Rattle.ladder_rules.specs.Verdict.{first_fault, offence, cycle_range, rule}
-use Rattle.ladder_rules.specs.declared.rule.ElementRule.TheVariants.{NotRightmost, WrongKind, TimerTwice, TimerShort, TimerLong, PwmTwoRates}
+use Rattle.ladder_rules.specs.Verdict.{first_fault, rule}
+use Rattle.ladder_rules.specs.declared.rule.ElementRule.TheVariants.{TimerLong}
+use Rattle.ladder_rules.proofs.RuleLemmas.{kept}
 use Rattle.ladder_rules.proofs.WalkLemmas.{elements, all_kept}
 use Rattle.ladder_meaning.specs.Numbers.{period}
 use Rattle.int_code.specs.Literals.{is_number}
@@ -47,26 +48,15 @@ timers_by p pre (x ∷ xs) e =
     let two = neither (fault_of TimerLong p (record { leaf = x.leaf; before = pre; at_right_end = x.at_right_end })) _ e in
     rw (not_so (is_long p.cycle x.leaf.kind) _ two.0, timers_by p (pre ++ x.leaf ∷ []) xs two.1) refl
 
--- the rules behind those for timers' lengths
-record Timed (p : Project) : Type 0 where
-  timers : offence p TimerLong ≡ None
-  cycle : cycle_range p ≡ None
-
-timed : (p : Project) → rule p ≡ None → Timed p
-timed p e =
-    let kinds = (neither (offence p NotRightmost) _ e).1 in
-    let twice = (neither (offence p WrongKind) _ kinds).1 in
-    let short = (neither (offence p TimerTwice) _ twice).1 in
-    let long = (neither (offence p TimerShort) _ short).1 in
-    let two = neither (offence p TimerLong) _ long in
-    let rates = (neither (offence p PwmTwoRates) _ two.1).1 in
-    record { timers = two.0; cycle = (neither (cycle_range p) _ rates).0 }
+first_false : (a b : Bool) → (a || b) ≡ false → a ≡ false
+first_false false b e = refl
+first_false true b e = let clash : ⊥ = cc in absurd clash
 
 some_cycle : (n : ℕ) → nat_eq n 0 ≡ false → n ≢ 0
 some_cycle n h e = grind (arith, nat_tests)
 
 pub cycle_some : (p : Project) → rule p ≡ None → p.cycle ≢ 0
-cycle_some p e = some_cycle p.cycle (not_so (nat_eq p.cycle 0) _ (timed p e).cycle)
+cycle_some p e = some_cycle p.cycle (first_false (nat_eq p.cycle 0) _ (not_so _ _ (kept p e).cycle))
 
 no_longer : (cycle periods : ℕ) → cycle ≢ 0 → (not (nat_eq cycle 0) && nat_lt 32767 periods) ≡ false → nat_le periods 32767 ≡ true
 no_longer cycle periods ne h = grind (arith, nat_tests)
@@ -108,5 +98,5 @@ fit_by cycle (x ∷ xs) ne l h =
 pub fits_all : (p : Project) → rule p ≡ None → list_all (λ l. is_read_kind l.kind) (all_leaves p.rungs) ≡ true → all_fit p.cycle (all_leaves p.rungs) ≡ true
 fits_all p e h =
     fit_by p.cycle (all_leaves p.rungs) (cycle_some p e)
-    (ap (none_long p.cycle) (sym (all_kept p.rungs)) ∙ timers_by p [] (all_placed p.rungs) (timed p e).timers)
+    (ap (none_long p.cycle) (sym (all_kept p.rungs)) ∙ timers_by p [] (all_placed p.rungs) (kept p e).long)
     h

@@ -5,24 +5,28 @@ use Rattle.ld_base.specs.Counts.{Counts, Rose}
 use Rattle.ladder_tree.specs.declared.fault.ProjectFault.{ProjectFault}
 use Rattle.ladder_tree.specs.declared.names.Names.{Names}
 use Rattle.ladder_tree.specs.declared.project.Project.{Project}
+use Rattle.texts.specs.declared.limits.TheConstants.{FILE_BYTES, CODE_BYTES}
 use Rattle.ladder_trace.specs.Trace as trace
 use Rattle.ladder_trace.specs.declared.trace.Trace.{Trace}
 use Rattle.int_code.specs.declared.op.IntProgram.{IntProgram}
 use Rattle.interp_code.specs.Machine.{IsRunnable}
 use Rattle.interp_code.specs.Program.{IsSound}
-use Rattle.interp_code.specs.Refused as interp
 use Rattle.interp_code.specs.declared.program.InterpProgram.{InterpProgram}
-use Rattle.ld_text.specs.Faults.{most_text}
+use Rattle.ld_text.specs.Text.{IsReadAs, text_fault, judged}
+use Rattle.project_file.specs.declared.fault.SourceFault.{SourceFault}
+use Rattle.project_file.specs.declared.fault.SourceFault.TheVariants as source
+use Rattle.ladder_lower.specs.Outcome.{IsLowered}
 use Rattle.trace_run.specs.Run.{IsProgramOf}
 use Rattle.ldmicro_top.specs.declared.status.InputFault.TheVariants as input
 use Rattle.ldmicro_top.specs.declared.status.Status.{Status}
 use Rattle.ldmicro_top.specs.declared.status.Status.TheVariants as status
-use Rattle.ldmicro_top.specs.Expected.{IsRefusedFor, IsAccepted, IsCode, IsCodeRefusedAt, HeldAnswers, ProjectAnswers, CodeAnswers, TraceAnswers, answer_of, is_fault}
-use Rattle.ldmicro_top.specs.Placed.{IsPlaced}
+use Rattle.ldmicro_top.specs.Expected.{IsCode, IsCodeRefusedAt, HeldAnswers, ProjectAnswers, CodeAnswers, TraceAnswers, answer_of, is_fault}
+use Rattle.ldmicro_top.specs.Judged.{IsJudged}
 use Rattle.ldmicro_top.specs.Replayed.{SameNames}
 use Rattle.ldmicro_top.specs.Sources.{HoldsProject, HoldsTrace, HoldsCode}
-use Rattle.ldmicro_top.specs.Steps.{OnlyReads, Declined}
-use Rattle.ldmicro_top.proofs.CutLemmas.{Found, accepted_whole, refused_whole, verdict_whole, code_whole, code_refused_whole}
+use Rattle.ldmicro_top.specs.Steps.{OnlyReads, Declined, status_of_source}
+use Rattle.ldmicro_top.specs.Verdict.{verdict}
+use Rattle.ldmicro_top.proofs.CutLemmas.{Found, verdict_whole, code_whole, code_refused_whole}
 use Rattle.ldmicro_top.proofs.RoomLemmas.{few}
 
 -- two steps that only read are one
@@ -79,16 +83,40 @@ held_text A held name text s is h = subst (λ (o : Option (List ℕ)). HeldAnswe
 abbrev pub NoGo : Project → Status → Type 0
 NoGo p s = ⊥
 
-pub holds_project : (held : Held) (name part : List ℕ) (p : Project) → Found most_text held name part → IsAccepted part p → HoldsProject held name p
-holds_project held name part p f h = record {
-  text = f.0;
-  read = f.1;
-  accepted = accepted_whole f.0 p (subst (λ (x : List ℕ). IsAccepted x p) f.2 h);
+-- the name holds a text of the project
+abbrev pub ReadsAs : Held → List ℕ → Project → Type 0
+ReadsAs held name p = (text : List ℕ) × (held name ≡ Some text) × IsReadAs (judged text) p
+
+-- the name holds a text with the fault
+abbrev pub RefusesText : Held → List ℕ → ProjectFault → Type 0
+RefusesText held name fault = (text : List ℕ) × (held name ≡ Some text) × (text_fault (judged text) ≡ Some fault)
+
+-- a source that gives no project ends the run
+pub source_declined : (told : Bool) (held : Held) (name : List ℕ) (old new : Counts) (fault : SourceFault) → (fault ≡ source.Failed → Rose old.reads new.reads)
+    → (fault ≡ source.Absent → Rose old.absences new.absences) → (told ≡ true → fault ≡ source.Absent → held name ≡ None)
+    → (told ≡ true → (f : ProjectFault) → fault ≡ source.Refused f → RefusesText held name f)
+    → Declined told (HeldAnswers (ProjectAnswers NoGo) (held name)) old new (status_of_source fault)
+source_declined told held name old new source.Absent failed absent none refused = record {
+  why = inr (inl (refl, inr (absent refl, λ y. subst (λ (o : Option (List ℕ)). HeldAnswers (ProjectAnswers NoGo) o status.ReadFault) (sym (none y refl)) refl)));
+}
+source_declined told held name old new source.Failed failed absent none refused = record { why = inr (inl (refl, inl (failed refl))) }
+source_declined told held name old new (source.Memory e) failed absent none refused = record { why = inl refl }
+source_declined told held name old new (source.Refused f) failed absent none refused = record {
+  why = inr (inr (
+    refl,
+    (λ e. cc),
+    λ y.
+        let r = refused y f refl in
+        held_text (ProjectAnswers NoGo) held name r.0 (status.Refused f) r.1 (inr (f, inl r.2, refl)),
+  ));
 }
 
-pub refused_project : (go_on : Project → Status → Type 0) (held : Held) (name part : List ℕ) (fault : ProjectFault) → Found most_text held name part → IsRefusedFor part fault → HeldAnswers (ProjectAnswers go_on) (held name) (status.Refused fault)
-refused_project go_on held name part fault f h =
-    held_text (ProjectAnswers go_on) held name f.0 (status.Refused fault) f.1 (inr (fault, refused_whole f.0 fault (subst (λ (x : List ℕ). IsRefusedFor x fault) f.2 h), refl))
+-- so does one whose project breaks a rule or does not fit
+pub turned_down : (held : Held) (name : List ℕ) (p : Project) (f : ProjectFault) → ReadsAs held name p → verdict p ≡ Some f → HeldAnswers (ProjectAnswers NoGo) (held name) (status.Refused f)
+turned_down held name p f r h = held_text (ProjectAnswers NoGo) held name r.0 (status.Refused f) r.1 (inr (f, inr (p, r.2, h), refl))
+
+pub holds_project : (held : Held) (name : List ℕ) (p q : Project) → ReadsAs held name p → q ≡ p → verdict p ≡ None → HoldsProject held name q
+holds_project held name p q r same h = record { text = r.0; read = r.1; accepted = (subst (IsReadAs (judged r.0)) (sym same) r.2, ap verdict same ∙ h) }
 
 refused_more : (go_on : Project → Status → Type 0) (s : Status) (text : List ℕ) → ProjectAnswers NoGo text s → ProjectAnswers go_on text s
 refused_more go_on s text (inl h) = absurd h.2
@@ -103,10 +131,10 @@ project_on go_on held name p s h on = held_text (ProjectAnswers go_on) held name
 
 -- Traces.
 
-pub holds_trace : (held : Held) (name part : List ℕ) (n : Names) (t : Trace) → Found trace.most_bytes held name part → trace.verdict n part ≡ Ok t → HoldsTrace held name n t
+pub holds_trace : (held : Held) (name part : List ℕ) (n : Names) (t : Trace) → Found FILE_BYTES held name part → trace.verdict n part ≡ Ok t → HoldsTrace held name n t
 holds_trace held name part n t f h = record { text = f.0; read = f.1; given = sym (verdict_whole n f.0) ∙ ap (trace.verdict n) (sym f.2) ∙ h }
 
-pub refused_trace : (held : Held) (name part : List ℕ) (n : Names) (line : ℕ) → Found trace.most_bytes held name part → trace.verdict n part ≡ Err line → HeldAnswers (TraceAnswers n) (held name) (status.BadInput (input.Trace line))
+pub refused_trace : (held : Held) (name part : List ℕ) (n : Names) (line : ℕ) → Found FILE_BYTES held name part → trace.verdict n part ≡ Err line → HeldAnswers (TraceAnswers n) (held name) (status.BadInput (input.Trace line))
 refused_trace held name part n line f h =
     let same : trace.verdict n f.0 ≡ Err line = sym (verdict_whole n f.0) ∙ ap (trace.verdict n) (sym f.2) ∙ h in
     held_text (TraceAnswers n) held name f.0 (status.BadInput (input.Trace line)) f.1 (ap answer_of (sym same))
@@ -117,7 +145,7 @@ trace_before old new name n m t same names h = record { text = h.text; read = sy
 
 -- Code.
 
-pub holds_code : (held : Held) (name part : List ℕ) (n : Names) (said : InterpProgram) → Found interp.most_bytes held name part → IsCode part said → SameNames n said.names → HoldsCode held name n said.program
+pub holds_code : (held : Held) (name part : List ℕ) (n : Names) (said : InterpProgram) → Found CODE_BYTES held name part → IsCode part said → SameNames n said.names → HoldsCode held name n said.program
 holds_code held name part n said f h same = record {
   text = f.0;
   read = f.1;
@@ -128,12 +156,12 @@ holds_code held name part n said f h same = record {
 }
 
 -- a text with other names is another project's
-pub other_project : (held : Held) (name part : List ℕ) (n : Names) (said : InterpProgram) → Found interp.most_bytes held name part → IsCode part said → (SameNames n said.names → ⊥) → HeldAnswers (CodeAnswers n (λ s. ⊥)) (held name) (status.BadInput (input.OtherProject said.code_line))
+pub other_project : (held : Held) (name part : List ℕ) (n : Names) (said : InterpProgram) → Found CODE_BYTES held name part → IsCode part said → (SameNames n said.names → ⊥) → HeldAnswers (CodeAnswers n (λ s. ⊥)) (held name) (status.BadInput (input.OtherProject said.code_line))
 other_project held name part n said f h differ =
     held_text (CodeAnswers n (λ s. ⊥)) held name f.0 (status.BadInput (input.OtherProject said.code_line)) f.1
     (inl (said, code_whole f.0 said (subst (λ (x : List ℕ). IsCode x said) f.2 h), inr (differ, refl)))
 
-pub refused_code : (held : Held) (name part : List ℕ) (n : Names) (line : ℕ) → Found interp.most_bytes held name part → IsCodeRefusedAt part line → HeldAnswers (CodeAnswers n (λ s. ⊥)) (held name) (status.BadInput (input.Interp line))
+pub refused_code : (held : Held) (name part : List ℕ) (n : Names) (line : ℕ) → Found CODE_BYTES held name part → IsCodeRefusedAt part line → HeldAnswers (CodeAnswers n (λ s. ⊥)) (held name) (status.BadInput (input.Interp line))
 refused_code held name part n line f h =
     held_text (CodeAnswers n (λ s. ⊥)) held name f.0 (status.BadInput (input.Interp line)) f.1
     (inr (line, code_refused_whole f.0 line (subst (λ (x : List ℕ). IsCodeRefusedAt x line) f.2 h), refl))
@@ -166,9 +194,9 @@ code_before old new name n m program same names h = record {
 
 -- Programs that run over a trace.
 
-pub placed_runs : (p : Project) (n : Names) (program : IntProgram) → IsPlaced p n program → IsProgramOf n program
-placed_runs p n program h =
-    let room = few p.target n h.fits in
+pub lowered_runs : (n : Names) (p : Project) (program : IntProgram) → IsJudged n p → IsLowered n p program → IsProgramOf n program
+lowered_runs n p program judged h =
+    let room = few p.target n judged.fits in
     let kept = h.formed.kept in
     record {
       runs = record { well_formed = h.formed; persistent = omega (arith, h.sizes.persistent, room.persistent); length = omega (arith, h.room.ops) };

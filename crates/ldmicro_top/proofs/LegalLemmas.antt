@@ -1,5 +1,5 @@
 -- What a project that is read and keeps the rules promises to the steps behind.
-use Rattle.std.proofs.Common.{◌≡◌, ℕ, ◌+◌, ◌*◌, ◌≤◌, Bool, true, false, ◌&&◌, nat_le, List, [], ◌∷◌, length, map, All, refl, sym, ap, ◌∙◌, arith, length-append}
+use Rattle.std.proofs.Common.{◌≡◌, ℕ, ◌+◌, ◌*◌, ◌≤◌, Bool, true, false, ◌&&◌, nat_le, List, [], ◌∷◌, length, map, None, All, refl, sym, ap, ◌∙◌, arith, length-append}
 use Rattle.std.proofs.lemmas.Bool.Decides.{nat_tests}
 use Rattle.std.proofs.lemmas.List.Elements.{All-nil, All-cons}
 use Rattle.std.proofs.lemmas.List.Sums.{sum_by-cons}
@@ -16,8 +16,12 @@ use Rattle.ladder_tree.specs.declared.project.Rung.{Rung}
 use Rattle.ladder_tree.specs.Forms.{forms_of, forms_in, forms_of_all, forms_step}
 use Rattle.ladder_tree.specs.Induct.{Each, node_ind}
 use Rattle.ladder_tree.specs.Leaves.{leaves, leaves_in, all_leaves, leaves_step}
-use Rattle.ladder_tree.specs.Names.{is_name, has_kind, is_well_named, all_well_named}
+use Rattle.ladder_tree.specs.Names.{names_of, is_name, has_kind, is_well_named, all_well_named}
 use Rattle.ladder_tree.specs.Size.{size_of, size_in, size_of_all, size_step}
+use Rattle.ladder_tree.specs.declared.names.Names.{Names}
+use Rattle.ladder_lower.specs.Outcome.{CanLower}
+use Rattle.ladder_rules.specs.Verdict.{rule}
+use Rattle.ldmicro_top.proofs.FitLemmas.{cycle_some, fits_all}
 use Rattle.ladder_rules.specs.Limits.{IsShort, IsWithinLimits, extent}
 use Rattle.ld_line.specs.Range.{is_read_kind}
 use Rattle.ld_text.specs.Within.{IsWithin}
@@ -107,3 +111,14 @@ all_short (l ∷ ls) h = let a = both_true (is_read_kind l.kind) _ h in All-cons
 
 pub within_limits : (p : Project) → IsWithin p → IsWithinLimits p.rungs
 within_limits p w = record { rungs = w.rungs; elements = w.elements; forms = w.forms; extents = all_short (all_leaves p.rungs) w.read }
+
+-- what is asked of a project that is lowered
+pub can_lower : (n : Names) (p : Project) → n ≡ names_of p.rungs → IsWithin p → rule p ≡ None → list_all (λ l. has_kind l.kind) (all_leaves p.rungs) ≡ true → CanLower n p
+can_lower n p named w r kinds = record {
+  names = named;
+  named = well_named p w kinds;
+  cycle = cycle_some p r;
+  fit = fits_all p r w.read;
+  depth = w.depth;
+  size = is_sized p w;
+}

@@ -12,3 +12,4 @@ pub mod MemberLemmas
 pub mod NamedLemmas
 pub mod RoomLemmas
 pub mod VariableLemmas
+pub mod SoughtLemmas

@@ -4,7 +4,8 @@ use Rattle.std.proofs.lemmas.Bool.Decides.{nat_tests}
 use Rattle.std.specs.List.{list_any, list_all}
 use Rattle.std.specs.Str.{bytes_eq}
 use Rattle.ladder_tree.specs.declared.element.Leaf as leaf
-use Rattle.ladder_tree.specs.Names.{firsts, firsts_from, all_bits, bit_names, is_name, is_name_within, is_name_byte, is_digit, is_well_named, has_kind, all_well_named, appearances, is_input, is_output, is_relay, all_named, analog_names, persistent_names, variable_names, names_of}
+use Rattle.ladder_tree.specs.Names.{firsts, firsts_from, all_bits, bit_names, is_name, is_name_within, is_name_byte, is_well_named, has_kind, all_well_named, appearances, is_input, is_output, is_relay, all_named, analog_names, persistent_names, variable_names, names_of}
+use Rattle.texts.specs.Digits.{is_digit}
 use Rattle.ladder_tree.specs.declared.names.Names.{Names}
 use Rattle.ladder_tree.specs.declared.project.Project.{Project}
 use Rattle.ladder_tree.specs.declared.project.Rung.{Rung}
@@ -12,6 +13,7 @@ use Rattle.ladder_tree.specs.Leaves.{all_leaves}
 use Rattle.int_code.specs.declared.op.IntProgram.{IntProgram}
 use Rattle.int_code.specs.WellFormed.{IsWellFormed}
 use Rattle.ladder_lower.specs.Outcome.{HasSizes, HasRoom}
+use Rattle.int_code.specs.Literals.{AllHoldNumbers}
 use Rattle.interp_code.specs.Program.{differ_from, all_differ, IsWritable}
 use Rattle.ld_line.specs.Range.{is_read_kind}
 use Rattle.ldmicro_top.proofs.MemberLemmas.{analog_variables, persistent_variables}
@@ -100,8 +102,8 @@ pub listed_within : (is_kind : List ℕ → Bool) (ls : List leaf.Leaf) → all_
 listed_within is_kind ls h = all_within (firsts (appearances is_kind ls)) (listed_named is_kind ls h)
 
 -- a project's names and its program have a text
-pub writable : (gs : List Rung) (q : Project) (program : IntProgram) → all_well_named (all_leaves gs) ≡ true → list_all (λ l. is_read_kind l.kind) (all_leaves gs) ≡ true → q.cycle ≤ 999999999 → length (names_of gs).persistent ≤ 256 → IsWellFormed program → HasSizes (names_of gs) q program → HasRoom program → IsWritable q.cycle (names_of gs) program
-writable gs q program named read timed few formed sizes room =
+pub writable : (gs : List Rung) (q : Project) (program : IntProgram) → all_well_named (all_leaves gs) ≡ true → list_all (λ l. is_read_kind l.kind) (all_leaves gs) ≡ true → q.cycle ≤ 999999999 → length (names_of gs).persistent ≤ 256 → IsWellFormed program → AllHoldNumbers program.ops → HasSizes (names_of gs) q program → HasRoom program → IsWritable q.cycle (names_of gs) program
+writable gs q program named read timed few formed numbers sizes room =
     let ls = all_leaves gs in
     record {
       sound = record {
@@ -131,10 +133,11 @@ writable gs q program named read timed few formed sizes room =
       persistent = firsts_within (all_named persistent_names ls) (persistents_within ls read);
       timed = timed;
       few = room.ops;
+      numbers = numbers;
     }
 
 -- the same of the names that were listed
-pub writable_names : (q : Project) (n : Names) (program : IntProgram) → n ≡ names_of q.rungs → all_well_named (all_leaves q.rungs) ≡ true → list_all (λ l. is_read_kind l.kind) (all_leaves q.rungs) ≡ true → q.cycle ≤ 999999999 → length n.persistent ≤ 256 → IsWellFormed program → HasSizes n q program → HasRoom program → IsWritable q.cycle n program
-writable_names q n program e named read timed few formed sizes room =
+pub writable_names : (q : Project) (n : Names) (program : IntProgram) → n ≡ names_of q.rungs → all_well_named (all_leaves q.rungs) ≡ true → list_all (λ l. is_read_kind l.kind) (all_leaves q.rungs) ≡ true → q.cycle ≤ 999999999 → length n.persistent ≤ 256 → IsWellFormed program → AllHoldNumbers program.ops → HasSizes n q program → HasRoom program → IsWritable q.cycle n program
+writable_names q n program e named read timed few formed numbers sizes room =
     subst (λ (m : Names). IsWritable q.cycle m program) (sym e)
-    (writable q.rungs q program named read timed (subst (λ (m : Names). length m.persistent ≤ 256) e few) formed (subst (λ (m : Names). HasSizes m q program) e sizes) room)
+    (writable q.rungs q program named read timed (subst (λ (m : Names). length m.persistent ≤ 256) e few) formed numbers (subst (λ (m : Names). HasSizes m q program) e sizes) room)

@@ -1,9 +1,10 @@
--- What a placed project's program shows over a trace is what its ladder shows.
-use Rattle.std.proofs.Common.{◌≡◌, ℕ, ◌<◌, pos, Bool, false, List, [], ◌∷◌, length, map, sym, refl, ap, ◌∙◌, arith}
+-- What a program that keeps a ladder's history shows over a trace is what the ladder shows.
+use Rattle.std.proofs.Common.{◌≡◌, ℕ, ◌<◌, pos, subst, Bool, false, List, [], ◌∷◌, length, map, sym, refl, ap, ◌∙◌, arith}
 use Rattle.std.specs.Prelude.{slice_index_or}
 use Rattle.std.proofs.lemmas.List.{ext_get_or, get_or-map, length-map}
 use Rattle.std.proofs.lemmas.List.FromFn.{length-map-range_with_len, get_or-map-range_with_len}
 use Rattle.ladder_tree.specs.declared.names.Names.{Names}
+use Rattle.ladder_tree.specs.Names.{names_of}
 use Rattle.ladder_tree.specs.declared.project.Project.{Project}
 use Rattle.ladder_meaning.specs.Cycle.{Ended, start, history}
 use Rattle.ladder_meaning.specs.State.{seen}
@@ -12,14 +13,17 @@ use Rattle.ladder_trace.specs.Simulated.{readings, eeprom_of, lines_from, shows_
 use Rattle.ladder_trace.specs.declared.trace.Trace.{Trace}
 use Rattle.int_code.specs.Meaning.{Moment}
 use Rattle.int_code.specs.Store as store
-use Rattle.int_code.specs.Uses.{has_pwm}
 use Rattle.int_code.specs.declared.op.IntProgram.{IntProgram}
 use Rattle.int_sim.specs.Machine.{view_by}
 use Rattle.ladder_lower.specs.Correct.{ShowsEnd, ShowsAll}
-use Rattle.ladder_lower.specs.Outcome.{HasSizes}
+use Rattle.ladder_lower.specs.Outcome.{IsLowered}
 use Rattle.trace_run.specs.Run.{run_lines}
-use Rattle.ldmicro_top.specs.Placed.{IsPlaced}
+use Rattle.interp_code.specs.declared.program.InterpProgram.{InterpProgram}
+use Rattle.ldmicro_top.specs.Carries.{EachEnds, Carries}
+use Rattle.ldmicro_top.specs.Expected.{IsCode}
+use Rattle.ldmicro_top.specs.Replayed.{SameNames, replayed}
 use Rattle.ldmicro_top.proofs.CarryLemmas.{start_shown}
+use Rattle.ldmicro_top.proofs.CodeLemmas.{one_code}
 
 -- what stands at the places of names is what the names have
 named : {A : Type 0} (d : A) (names : List (List ℕ)) (f : ℕ → A) (g : List ℕ → A) → ((k : ℕ) → k < length names → f k ≡ g (slice_index_or names k [])) → firsts (length names) f ≡ map g names
@@ -30,9 +34,15 @@ named d names f g same =
     let less : i < length names = omega (arith, length-map-range_with_len f 0 (length names)) in
     get_or-map-range_with_len f 0 (length names) i i d less (omega arith) ∙ same i less ∙ sym (get_or-map g names i [] d less))
 
+-- what a program shows has the places of the names
+record HasViews (n : Names) (program : IntProgram) : Type 0 where
+  outputs : program.outputs ≡ length n.outputs
+  variables : program.variables ≡ length n.variables
+  persistent : program.persistent ≡ length n.persistent
+
 -- at the end of a cycle the program shows what the ladder shows
-pub views_agree : (shows : Bool) (n : Names) (p : Project) (program : IntProgram) (e : Ended) (m : Moment) → HasSizes n p program → ShowsEnd n e m → view_by shows n program m.store ≡ view shows n e
-views_agree shows n p program e m sizes h =
+views_agree : (shows : Bool) (n : Names) (program : IntProgram) (e : Ended) (m : Moment) → HasViews n program → ShowsEnd n e m → view_by shows n program m.store ≡ view shows n e
+views_agree shows n program e m sizes h =
     let t = m.store in
     let outputs = ap (λ k. firsts k t.output) sizes.outputs ∙ named false n.outputs t.output e.state.bit h.shows.outputs in
     let relays = named false n.relays t.bit e.state.bit h.shows.relays in
@@ -43,23 +53,54 @@ views_agree shows n p program e m sizes h =
     cc
 
 -- and so at the end of each cycle
-all_agree : (shows : Bool) (n : Names) (p : Project) (program : IntProgram) (es : List Ended) (ms : List Moment) → HasSizes n p program → ShowsAll n es ms → map (λ m. view_by shows n program m.store) ms ≡ map (view shows n) es
-all_agree shows n p program [] [] sizes h = refl
-all_agree shows n p program (e ∷ es) (m ∷ ms) sizes h =
-    let one = views_agree shows n p program e m sizes h.0 in
-    let more = all_agree shows n p program es ms sizes h.1 in
+all_agree : (shows : Bool) (n : Names) (program : IntProgram) (es : List Ended) (ms : List Moment) → HasViews n program → ShowsAll n es ms → map (λ m. view_by shows n program m.store) ms ≡ map (view shows n) es
+all_agree shows n program [] [] sizes h = refl
+all_agree shows n program (e ∷ es) (m ∷ ms) sizes h =
+    let one = views_agree shows n program e m sizes h.0 in
+    let more = all_agree shows n program es ms sizes h.1 in
     cc
-all_agree shows n p program [] (m ∷ ms) sizes h = absurd h
-all_agree shows n p program (e ∷ es) [] sizes h = absurd h
+all_agree shows n program [] (m ∷ ms) sizes h = absurd h
+all_agree shows n program (e ∷ es) [] sizes h = absurd h
 
 -- the lines of a ladder by its names, with the duty or without
 abbrev lines_with : Bool → Names → Project → Trace → List ℕ
 lines_with shows n p trace = lines_from n 0 (map (view shows n) (history p (start p (eeprom_of trace)) (map (seen n) (readings trace.steps))))
 
-pub simulated_of : (p : Project) (n : Names) (program : IntProgram) (trace : Trace) → IsPlaced p n program → run_lines (has_pwm program.ops) n program trace ≡ simulated p trace
-simulated_of p n program trace placed =
-    let begun = start_shown n p program (eeprom_of trace) placed.sizes in
-    let kept = placed.keeps.each (start p (eeprom_of trace)) (store.start program.starts (eeprom_of trace)) (readings trace.steps) begun in
-    ap (lines_from n 0) (all_agree (has_pwm program.ops) n p program _ _ placed.sizes kept)
-    ∙ ap (λ (shows : Bool). lines_with shows n p trace) placed.duty
-    ∙ ap (λ (names : Names). lines_with (shows_duty p) names p trace) placed.names
+-- the lines of a lowered project's program
+pub simulated_of : (p : Project) (n : Names) (program : IntProgram) (trace : Trace) → n ≡ names_of p.rungs → IsLowered n p program → run_lines (shows_duty p) n program trace ≡ simulated p trace
+simulated_of p n program trace named lowered =
+    let begun = start_shown n p program (eeprom_of trace) lowered.sizes in
+    let kept = lowered.keeps.each (start p (eeprom_of trace)) (store.start program.starts (eeprom_of trace)) (readings trace.steps) begun in
+    let sizes = lowered.sizes in
+    let views : HasViews n program = record { outputs = sizes.outputs; variables = sizes.variables; persistent = sizes.persistent } in
+    ap (lines_from n 0) (all_agree (shows_duty p) n program _ _ views kept)
+    ∙ ap (λ (names : Names). lines_with (shows_duty p) names p trace) named
+
+-- Code that carries a project.
+
+all_shown : (n : Names) (most : ℕ) (es : List Ended) (ms : List Moment) → EachEnds n most es ms → ShowsAll n es ms
+all_shown n most [] [] h = tt
+all_shown n most (e ∷ es) (m ∷ ms) h = (h.0.ends, all_shown n most es ms h.1)
+all_shown n most [] (m ∷ ms) h = absurd h
+all_shown n most (e ∷ es) [] h = absurd h
+
+-- its program has the project's names
+pub carried_names : (p : Project) (code : List ℕ) (most : ℕ) (said : InterpProgram) → Carries p code most → IsCode code said → SameNames (names_of p.rungs) said.names
+carried_names p code most said c h =
+    let same : c.program ≡ said = one_code code c.program said (c.read, c.within) h in
+    subst (λ (q : InterpProgram). SameNames (names_of p.rungs) q.names) same
+    (record { inputs = c.inputs; outputs = c.outputs; analogs = c.analogs; variables = c.variables; relays = c.relays; persistent = c.persistent })
+
+-- and its lines over a trace are those of the ladder
+pub carried_lines : (p : Project) (code : List ℕ) (most : ℕ) (said : InterpProgram) (trace : Trace) → Carries p code most → IsCode code said → replayed p said.program trace ≡ simulated p trace
+carried_lines p code most said trace c h =
+    let n = names_of p.rungs in
+    let sound = c.read.says.sound in
+    let views : HasViews n c.program.program = record {
+      outputs = sound.output_count ∙ ap length c.outputs;
+      variables = sound.variable_count ∙ ap length c.variables;
+      persistent = sound.persistent_count ∙ ap length c.persistent;
+    } in
+    let same : c.program ≡ said = one_code code c.program said (c.read, c.within) h in
+    subst (λ (q : InterpProgram). replayed p q.program trace ≡ simulated p trace) same
+    (ap (lines_from n 0) (all_agree (shows_duty p) n c.program.program _ _ views (all_shown n most _ _ (c.each (eeprom_of trace) (readings trace.steps)))))

@@ -4,7 +4,8 @@ use Rattle.std.proofs.lemmas.Bool.Decides.{nat_tests}
 use Rattle.std.proofs.lemmas.Fmt.{length-decimal-le}
 use Rattle.std.specs.List.{list_all}
 use Rattle.interp_code.proofs.SpelledWords.{decimal_digits}
-use Rattle.ladder_tree.specs.Names.{is_letter, is_digit, is_name_byte, is_name_within, is_name, operand_names, numbered_names, analog_names, persistent_names, variable_names, all_named}
+use Rattle.ladder_tree.specs.Names.{is_letter, is_name_byte, is_name_within, is_name, operand_names, numbered_names, analog_names, persistent_names, variable_names, all_named}
+use Rattle.texts.specs.Digits.{is_digit}
 use Rattle.ladder_tree.specs.declared.element.Leaf as leaf
 use Rattle.ladder_tree.specs.declared.element.LeafKind.{LeafKind}
 use Rattle.ladder_tree.specs.declared.element.LeafKind.TheVariants as kind

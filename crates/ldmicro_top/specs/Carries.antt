@@ -1,6 +1,7 @@
 -- When an interpretable text carries a project: cycle by cycle, what the text's program does is what the ladder does.
 use Rattle.std.specs.Prelude.{◌≡◌, ℕ, ◌≤◌, List, [], ◌∷◌, length, map}
-use Rattle.ld_base.specs.Lines.{lines}
+use Rattle.texts.specs.Lines.{lines}
+use Rattle.texts.specs.declared.limits.TheConstants.{CODE_BYTES}
 use Rattle.ladder_tree.specs.declared.names.Names.{Names}
 use Rattle.ladder_tree.specs.declared.project.Project.{Project}
 use Rattle.ladder_tree.specs.Names.{names_of}
@@ -13,7 +14,6 @@ use Rattle.int_code.specs.Store as store
 use Rattle.ladder_lower.specs.Correct.{ShowsEnd}
 use Rattle.interp_code.specs.declared.program.InterpProgram.{InterpProgram}
 use Rattle.interp_code.specs.Program.{IsProgram}
-use Rattle.interp_code.specs.Refused.{most_bytes}
 
 -- a cycle ends as the ladder's does, and at most so many operations were executed
 pub record EndsWithin (n : Names) (most : ℕ) (e : Ended) (m : Moment) : Type 0 where
@@ -32,7 +32,7 @@ EachEnds n most (e ∷ es) [] = ⊥
 pub record Carries (p : Project) (code : List ℕ) (most : ℕ) : Type 0 where
   pub program : InterpProgram
   pub read : IsProgram (lines code) program
-  pub within : length code ≤ most_bytes
+  pub within : length code ≤ CODE_BYTES
   pub cycle : program.cycle ≡ p.cycle
   pub inputs : program.names.inputs ≡ (names_of p.rungs).inputs
   pub outputs : program.names.outputs ≡ (names_of p.rungs).outputs

@@ -1,7 +1,9 @@
 -- The answer that is expected of the words and of what the names hold.
-use Rattle.std.specs.Prelude.{◌≡◌, ◌⊎◌, ⊤, ℕ, ◌≤◌, Bool, true, false, List, length, nat_lt, Option, Some, None, Result, Ok, Err}
+use Rattle.std.specs.Prelude.{◌≡◌, ◌⊎◌, ℕ, ◌≤◌, Bool, true, false, List, length, Option, Some, None, Result, Ok, Err}
 use Rattle.ld_base.specs.Bytes.{Held}
-use Rattle.ld_base.specs.Lines.{lines}
+use Rattle.texts.specs.Lines.{lines}
+use Rattle.texts.specs.Limits as limits
+use Rattle.texts.specs.declared.limits.TheConstants.{CODE_BYTES}
 use Rattle.ladder_tree.specs.declared.fault.ProjectFault.{ProjectFault}
 use Rattle.ladder_tree.specs.declared.names.Names.{Names}
 use Rattle.ladder_tree.specs.declared.project.Project.{Project}
@@ -9,8 +11,6 @@ use Rattle.ladder_tree.specs.Names.{names_of}
 use Rattle.ladder_trace.specs.Trace as trace
 use Rattle.ladder_trace.specs.declared.trace.Trace.{Trace}
 use Rattle.ld_text.specs.Text.{IsReadAs, text_fault, judged}
-use Rattle.ld_text.specs.declared.fault.TextError.{TextError}
-use Rattle.ld_text.specs.declared.fault.TextError.TheVariants as error
 use Rattle.interp_code.specs.Program.{IsProgram}
 use Rattle.interp_code.specs.Refused as interp
 use Rattle.interp_code.specs.declared.program.InterpProgram.{InterpProgram}
@@ -50,10 +50,10 @@ TraceAnswers n text answer = answer ≡ answer_of (trace.verdict n text)
 
 -- a text that says a program
 abbrev pub IsCode : List ℕ → InterpProgram → Type 0
-IsCode text program = IsProgram (lines text) program × (length text ≤ interp.most_bytes)
+IsCode text program = IsProgram (lines text) program × (length text ≤ CODE_BYTES)
 
 abbrev pub IsCodeRefusedAt : List ℕ → ℕ → Type 0
-IsCodeRefusedAt text line = interp.IsRefusedAt (nat_lt interp.most_bytes (length text)) (lines (interp.judged text)) line
+IsCodeRefusedAt text line = interp.IsRefusedAt (limits.is_over CODE_BYTES text) (lines (limits.judged CODE_BYTES text)) line
 
 -- A text is refused at a line, or says a program with other names than the project's, which is told with the line `code`, or goes on.
 abbrev pub CodeAnswers : Names → (Status → Type 0) → List ℕ → Status → Type 0
@@ -69,11 +69,6 @@ Expected (Simulate source trace) held answer = HeldAnswers (ProjectAnswers (λ p
 Expected (Replay source file trace) held answer =
     HeldAnswers (ProjectAnswers (λ p. HeldAnswers (CodeAnswers (names_of p.rungs) (HeldAnswers (TraceAnswers (names_of p.rungs)) (held trace))) (held file))) (held source) answer
 Expected Other held answer = answer ≡ status.Usage
-
--- why a text is not compiled: want of memory may always be
-abbrev pub IsDeclined : List ℕ → TextError → Type 0
-IsDeclined text (error.Memory e) = ⊤
-IsDeclined text (error.Refused fault) = IsRefusedFor text fault
 
 -- an answer that depends on more than the words and what the names hold
 abbrev pub is_fault : Status → Bool

@@ -6,6 +6,7 @@ pub mod Command
 pub mod Expected
 pub mod Ran
 pub mod Steps
-pub mod Placed
+pub mod Judged
 pub mod Replayed
 pub mod Sources
+pub mod Sought

@@ -4,7 +4,8 @@ use Rattle.ld_base.specs.Counts.{Counts, Rose}
 use Rattle.ld_base.specs.Bytes.{Held, SameHeld, HoldsThen}
 use Rattle.ladder_tree.specs.declared.project.Project.{Project}
 use Rattle.ladder_tree.specs.Names.{names_of}
-use Rattle.int_code.specs.Caps.{ops_cap}
+use Rattle.chip_tables.specs.declared.target.Target.TheVariants.{Interp}
+use Rattle.ladder_rules.specs.Needs.{cycle_cap_on}
 use Rattle.ladder_trace.specs.Simulated.{simulated}
 use Rattle.ladder_trace.specs.declared.trace.Trace.{Trace}
 use Rattle.int_code.specs.declared.op.IntProgram.{IntProgram}
@@ -33,7 +34,7 @@ pub record IsEmitted (project : Project) (code printed : List ℕ) : Type 0 wher
   -- the most operations that a cycle executes, which is also how many there are
   pub most : ℕ
   pub carries : Carries project code most
-  pub cap : most ≤ ops_cap project.rungs
+  pub cap : most ≤ cycle_cap_on Interp project.rungs
   pub report : printed ≡ report (names_of project.rungs) most
 
 -- the source's project and bytes that carry it, and their report

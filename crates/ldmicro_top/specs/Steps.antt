@@ -2,12 +2,14 @@
 use Rattle.std.specs.Prelude.{◌≡◌, ◌≢◌, ◌⊎◌, ℕ, ◌≤◌, Bool, true, false, List, ◌++◌}
 use Rattle.ld_base.specs.Counts.{Counts, Rose}
 use Rattle.ld_base.specs.Bytes.{Held, SameHeld, HoldsThen}
-use Rattle.ld_base.specs.declared.device.FileFault.{FileFault}
-use Rattle.ld_base.specs.declared.device.FileFault.TheVariants as file
-use Rattle.ld_base.specs.declared.device.OpenFault.{OpenFault}
-use Rattle.ld_base.specs.declared.device.OpenFault.TheVariants as opening
+use Rattle.ld_base.specs.declared.files.FileFault.{FileFault}
+use Rattle.ld_base.specs.declared.files.FileFault.TheVariants as file
+use Rattle.ld_base.specs.declared.files.OpenFault.{OpenFault}
+use Rattle.ld_base.specs.declared.files.OpenFault.TheVariants as opening
+use Rattle.project_file.specs.declared.fault.SourceFault.{SourceFault}
+use Rattle.project_file.specs.declared.fault.SourceFault.TheVariants as source
 use Rattle.ldmicro_top.specs.declared.status.Status.{Status}
-use Rattle.ldmicro_top.specs.declared.status.Status.TheVariants.{Ok, ReadFault, WriteFault, NoMemory}
+use Rattle.ldmicro_top.specs.declared.status.Status.TheVariants.{Ok, Refused, ReadFault, WriteFault, NoMemory}
 use Rattle.ladder_trace.specs.Trace.{IsTraceOf}
 use Rattle.trace_run.specs.Run.{IsProgramOf, run_lines}
 use Rattle.ldmicro_top.specs.declared.traced.TraceRun.{TraceRun}
@@ -50,6 +52,13 @@ pub record Unwritten (told : Bool) (dest code : List ℕ) (old new : ℕ) (held 
 abbrev pub unread : OpenFault → Status
 unread (opening.Memory e) = NoMemory
 unread _ = ReadFault
+
+-- the status of a source that gives no project
+abbrev pub status_of_source : SourceFault → Status
+status_of_source source.Absent = ReadFault
+status_of_source source.Failed = ReadFault
+status_of_source (source.Memory e) = NoMemory
+status_of_source (source.Refused fault) = Refused fault
 
 abbrev pub status_of : FileFault → Status
 status_of file.Failed = WriteFault

@@ -2,14 +2,13 @@
 #![tactic(auto)]
 
 pub mod compile;
+mod duty;
+pub mod judge;
+mod kept;
 pub mod laws;
 pub mod report;
 pub mod run;
 pub mod sources;
 pub mod status;
-#[cfg(test)]
-mod tests;
 pub mod traced;
 pub mod words;
-#[cfg(test)]
-mod worked;

@@ -12,7 +12,7 @@ use crate::sources::{take_compiled, take_replay, take_simulation};
 use crate::status::{Status, status_line};
 use crate::traced::TraceRun;
 use crate::words::{Request, requested};
-use ld_base::device::{FileFault, Files, Out};
+use ld_base::files::{FileFault, Files, Out};
 use ld_base::whole::{write_file, write_out};
 use std::alloc::Global;
 use std::rc::RcStr;

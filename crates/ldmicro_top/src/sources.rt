@@ -8,29 +8,27 @@ ghost use Rattle.ldmicro_top.specs.Command.{Simulate, Replay};
 ghost use Rattle.ldmicro_top.specs.Ran.{IsCompiled, IsSimulated, IsReplayed};
 ghost use Rattle.ldmicro_top.specs.Replayed.{SameNames};
 ghost use Rattle.ldmicro_top.specs.Sources.{HoldsProject, HoldsTrace, HoldsCode};
-ghost use Rattle.ldmicro_top.specs.Steps.{OnlyReads, Declined, unread, lines_of_run, IsReady};
-ghost use Rattle.ldmicro_top.specs.Placed.{IsPlaced};
+ghost use Rattle.ldmicro_top.specs.Steps.{OnlyReads, Declined, unread, status_of_source, lines_of_run, IsReady};
+ghost use Rattle.ldmicro_top.specs.Judged.{IsJudged};
 ghost use Rattle.std.specs.String.{string_bytes};
 
-use crate::compile::{Compiled, Placed, place_text, write_placed};
+use crate::compile::{Compiled, compile_legal};
+use crate::duty::shows_duty;
+use crate::judge::judge;
 use crate::status::{InputFault, Status};
 use crate::traced::TraceRun;
 use int_code::op::IntProgram;
-use int_sim::has_pwm;
 use interp_code::read::{InterpError, read_interp};
+use ladder_lower::program::lower;
+use ladder_rules::Legal;
 use ladder_trace::trace::{Trace, TraceError, read_trace};
 use ladder_tree::names::{NameList, Names};
-use ld_base::device::{Files, OpenFault};
+use ld_base::files::{Files, OpenFault};
 use ld_base::whole::read_file;
 use ld_text::fault::TextError;
-use ld_text::read::TEXT_LIMIT;
+use project_file::{SourceFault, read_source};
 use std::alloc::Global;
-
-/// How many bytes an interpretable text may have.
-const CODE_LIMIT: usize = 67_108_864;
-
-/// How many bytes a trace may have.
-const TRACE_LIMIT: usize = 8_388_608;
+use texts::limits::{CODE_BYTES, FILE_BYTES};
 
 /// The status of a file that could not be read.
 fn unread(fault: OpenFault) -> Status
@@ -42,19 +40,30 @@ fn unread(fault: OpenFault) -> Status
     }
 }
 
-/// The project that a source holds, with its program.
-pub fn take_project<F: Files>(alloc: Global, files: &mut F, source: &str) -> Result<Placed, Status>
+/// The status of a source that gives no project.
+fn status_of_source(fault: SourceFault) -> Status
+    ensures { result ≡ status_of_source fault }
+{
+    match fault {
+        SourceFault::Memory(_) => Status::NoMemory,
+        SourceFault::Absent | SourceFault::Failed => Status::ReadFault,
+        SourceFault::Refused(fault) => Status::Refused(fault),
+    }
+}
+
+/// The project that a source holds, which keeps the rules and fits.
+pub fn take_project<F: Files>(alloc: Global, files: &mut F, source: &str) -> Result<Legal, Status>
     ensures only { OnlyReads F.tells (F.counts files.old) (F.counts files.new) (F.held files.old) (F.held files.new) }
-    ensures placed { IfOk result (λ c. IsPlaced c.legal.project c.legal.names c.program) }
-    ensures holds { F.tells ≡ true → IfOk result (λ c. HoldsProject (F.held files.old) source.now c.legal.project) }
+    ensures judged { IfOk result (λ l. IsJudged l.names l.project) }
+    ensures holds { F.tells ≡ true → IfOk result (λ l. HoldsProject (F.held files.old) source.now l.project) }
     ensures declined { IfErr result (Declined F.tells (HeldAnswers (ProjectAnswers (λ p a. ⊥)) (F.held files.old source.now)) (F.counts files.old) (F.counts files.new)) }
 {
-    let text = match read_file(alloc, files, source, TEXT_LIMIT) {
-        Ok(text) => text,
-        Err(fault) => return Err(unread(fault)),
+    let project = match read_source(alloc, files, source) {
+        Ok(project) => project,
+        Err(fault) => return Err(status_of_source(fault)),
     };
-    match place_text(alloc, &text) {
-        Ok(placed) => Ok(placed),
+    match judge(alloc, project) {
+        Ok(legal) => Ok(legal),
         Err(TextError::Refused(fault)) => Err(Status::Refused(fault)),
         Err(TextError::Memory(_)) => Err(Status::NoMemory),
     }
@@ -72,7 +81,7 @@ pub fn take_trace<F: Files>(
     ensures holds { F.tells ≡ true → IfOk result (HoldsTrace (F.held files.old) name.now names.now) }
     ensures declined { IfErr result (Declined F.tells (HeldAnswers (TraceAnswers names.now) (F.held files.old name.now)) (F.counts files.old) (F.counts files.new)) }
 {
-    let text = match read_file(alloc, files, name, TRACE_LIMIT) {
+    let text = match read_file(alloc, files, name, FILE_BYTES) {
         Ok(text) => text,
         Err(fault) => return Err(unread(fault)),
     };
@@ -122,7 +131,7 @@ pub fn take_code<F: Files>(
     ensures holds { F.tells ≡ true → IfOk result (HoldsCode (F.held files.old) name.now names.now) }
     ensures declined { IfErr result (Declined F.tells (HeldAnswers (CodeAnswers names.now (λ a. ⊥)) (F.held files.old name.now)) (F.counts files.old) (F.counts files.new)) }
 {
-    let text = match read_file(alloc, files, name, CODE_LIMIT) {
+    let text = match read_file(alloc, files, name, CODE_BYTES) {
         Ok(text) => text,
         Err(fault) => return Err(unread(fault)),
     };
@@ -152,8 +161,8 @@ pub fn take_compiled<F: Files>(
     ensures compiled { F.tells ≡ true → IfOk result (λ c. IsCompiled source.now (F.held files.old) c.code (string_bytes c.report)) }
     ensures declined { IfErr result (Declined F.tells (HeldAnswers (ProjectAnswers (λ p a. ⊥)) (F.held files.old source.now)) (F.counts files.old) (F.counts files.new)) }
 {
-    let placed = take_project(alloc, files, source)?;
-    match write_placed(alloc, &placed) {
+    let legal = take_project(alloc, files, source)?;
+    match compile_legal(alloc, &legal) {
         Ok(compiled) => Ok(compiled),
         Err(_) => Err(Status::NoMemory),
     }
@@ -171,12 +180,16 @@ pub fn take_simulation<F: Files>(
     ensures simulated { F.tells ≡ true → IfOk result (λ r. IsSimulated source.now trace.now (F.held files.old) (lines_of_run r)) }
     ensures declined { IfErr result (Declined F.tells (Expected (Simulate source.now trace.now) (F.held files.old)) (F.counts files.old) (F.counts files.new)) }
 {
-    let placed = take_project(alloc, files, source)?;
-    let trace = take_trace(alloc, files, trace, placed.legal.names())?;
-    let shows_duty = has_pwm(placed.program.ops.as_slice());
+    let legal = take_project(alloc, files, source)?;
+    let program = match lower(alloc, legal.project(), legal.names()) {
+        Ok(program) => program,
+        Err(_) => return Err(Status::NoMemory),
+    };
+    let trace = take_trace(alloc, files, trace, legal.names())?;
+    let shows_duty = shows_duty(legal.project());
     Ok(TraceRun {
-        legal: placed.legal,
-        program: placed.program,
+        legal,
+        program,
         shows_duty,
         trace,
     })
@@ -195,12 +208,12 @@ pub fn take_replay<F: Files>(
     ensures replayed { F.tells ≡ true → IfOk result (λ r. IsReplayed source.now file.now trace.now (F.held files.old) (lines_of_run r)) }
     ensures declined { IfErr result (Declined F.tells (Expected (Replay source.now file.now trace.now) (F.held files.old)) (F.counts files.old) (F.counts files.new)) }
 {
-    let placed = take_project(alloc, files, source)?;
-    let shows_duty = has_pwm(placed.program.ops.as_slice());
-    let program = take_code(alloc, files, file, placed.legal.names())?;
-    let trace = take_trace(alloc, files, trace, placed.legal.names())?;
+    let legal = take_project(alloc, files, source)?;
+    let program = take_code(alloc, files, file, legal.names())?;
+    let trace = take_trace(alloc, files, trace, legal.names())?;
+    let shows_duty = shows_duty(legal.project());
     Ok(TraceRun {
-        legal: placed.legal,
+        legal,
         program,
         shows_duty,
         trace,

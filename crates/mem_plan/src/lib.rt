@@ -5,5 +5,4 @@ pub mod fault;
 pub mod laws;
 pub mod places;
 pub mod plan;
-#[cfg(test)]
-mod tests;
+pub mod sizes;

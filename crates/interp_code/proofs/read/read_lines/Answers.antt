@@ -1,5 +1,5 @@
 use Rattle.std.proofs.Common.{◌≡◌, ◌++◌, ◌∷◌, [], true, false, sym, ap, ◌∙◌, append_assoc, length-append, arith}
-use Rattle.ld_base.specs.Lines.{lines}
+use Rattle.texts.specs.Lines.{lines}
 use Rattle.interp_code.specs.Draft.{step_line}
 use Rattle.interp_code.specs.Held.{draft}
 use Rattle.interp_code.proofs.Outcomes.{took, missed, read_push, stops_unread, stops_past}

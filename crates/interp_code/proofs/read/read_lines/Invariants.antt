@@ -1,5 +1,5 @@
 use Rattle.std.proofs.Common.{◌≡◌, ◌+◌, ◌≤◌, ℕ, List, ◌++◌, length, Some}
-use Rattle.ld_base.specs.Lines.{lines}
+use Rattle.texts.specs.Lines.{lines}
 use Rattle.interp_code.specs.Program.{most_operations}
 use Rattle.interp_code.specs.Draft.{read, start}
 use Rattle.interp_code.specs.Held.{draft}

@@ -1,4 +1,4 @@
-use Rattle.ld_base.proofs.LineLemmas.{first_piece, pieces-last}
+use Rattle.texts.proofs.LineLemmas.{first_piece, pieces-last}
 use Rattle.interp_code.proofs.word.first_word.Goals as goal
 
 pub returns-in-Some : goal.returns-in-Some

@@ -1,6 +1,6 @@
 use Rattle.std.proofs.Common.{◌++◌, List, ℕ, codes, map, ap, ◌∙◌}
 use Rattle.std.specs.String.{string_bytes}
-use Rattle.ld_base.specs.Lines.{joined}
+use Rattle.texts.specs.Lines.{joined}
 use Rattle.interp_code.specs.Text.{line_text, variables}
 use Rattle.interp_code.proofs.TextLemmas.{names_written}
 use Rattle.interp_code.proofs.WholeText.{six}

@@ -1,6 +1,6 @@
 use Rattle.std.proofs.Common.{◌≡◌, ◌∷◌, [], ◌++◌, List, ℕ, codes, map, sym, ap, ◌∙◌, subst, arith}
 use Rattle.std.specs.String.{string_bytes}
-use Rattle.ld_base.specs.Lines.{lines, joined}
+use Rattle.texts.specs.Lines.{lines, joined}
 use Rattle.int_code.specs.Text.{op_words}
 use Rattle.interp_code.specs.Line.{Magic, Cycle, BitCount, Code}
 use Rattle.interp_code.specs.Text.{line_text, interp_text}
@@ -19,7 +19,7 @@ text_is c =
     c.new-text.ensures.bytes c.in_ok-push_head.ensures
     (c.in_ok-push_all_names.ensures.text ∙ ap (λ starts. string_bytes c.push_head.new.text ++ joined (map line_text (name_lines c.args.names.now starts))) c.as_slice.ensures)
     c.in_ok-push_sizes.ensures
-    (c.in_ok-push_operations.ensures.text ∙ ap (λ ops. string_bytes c.push_sizes.new.text ++ joined (map op_words ops)) c.as_slice-2.ensures)
+    (c.in_ok-push_operations.ensures ∙ ap (λ ops. string_bytes c.push_sizes.new.text ++ joined (map op_words ops)) c.as_slice-2.ensures)
     c.in_ok-push_str.ensures.bytes
     ∙ groups_written c.args.cycle c.args.names.now program
 
@@ -32,6 +32,5 @@ returns-clause-reads_back c =
     subst P (sym (text_is c)) (text_says c.args.cycle c.args.names.now c.args.program.now c.requires
     record {
       sizes = record { bits = omega arith; outputs = omega arith; inputs = omega arith; analogs = omega arith; variables = omega arith; persistent = omega arith };
-      starts = rw c.as_slice.ensures at c.in_ok-push_all_names.ensures.shorts;
-      ops = rw c.as_slice-2.ensures at c.in_ok-push_operations.ensures.shorts;
+      starts = rw c.as_slice.ensures at c.in_ok-push_all_names.ensures.numbers;
     })

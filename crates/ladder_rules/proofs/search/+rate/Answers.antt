@@ -1,6 +1,6 @@
 use Rattle.std.proofs.Common.{◌+◌, drop, Some, None}
 use Rattle.ladder_tree.specs.Leaves.{leaves, leaves_in}
-use Rattle.ladder_rules.proofs.FrontLemmas.{nodes_front}
+use Rattle.ladder_tree.proofs.FrontLemmas.{nodes_front}
 use Rattle.ladder_rules.proofs.SearchLemmas.{rate_step}
 use Rattle.ladder_rules.proofs.search.+rate.Goals as goal
 

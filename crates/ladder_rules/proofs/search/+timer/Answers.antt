@@ -2,7 +2,7 @@ use Rattle.std.proofs.Common.{◌+◌, drop}
 use Rattle.ladder_tree.specs.Leaves.{leaves, leaves_in}
 use Rattle.ladder_rules.specs.Rules.{is_timer_of}
 use Rattle.ladder_rules.specs.declared.search.Search.TheVariants.{Found, Left}
-use Rattle.ladder_rules.proofs.FrontLemmas.{nodes_front}
+use Rattle.ladder_tree.proofs.FrontLemmas.{nodes_front}
 use Rattle.ladder_rules.proofs.SearchLemmas.{seek_step}
 use Rattle.ladder_rules.proofs.search.+timer.Goals as goal
 

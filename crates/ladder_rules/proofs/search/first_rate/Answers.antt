@@ -1,7 +1,7 @@
 use Rattle.std.proofs.Common.{◌+◌, drop, Some, None, ap, ◌∙◌}
 use Rattle.ladder_tree.specs.Leaves.{leaves_in, all_leaves}
 use Rattle.ladder_rules.specs.Rules.{first_rate}
-use Rattle.ladder_rules.proofs.FrontLemmas.{rungs_front}
+use Rattle.ladder_tree.proofs.FrontLemmas.{rungs_front}
 use Rattle.ladder_rules.proofs.SearchLemmas.{rate_step}
 use Rattle.ladder_rules.proofs.search.first_rate.Goals as goal
 

@@ -5,7 +5,7 @@ use Rattle.ladder_tree.specs.declared.project.Rung.{Rung}
 use Rattle.ladder_rules.specs.Rules.{is_timer_of}
 use Rattle.ladder_rules.specs.Walk.{seek}
 use Rattle.ladder_rules.specs.declared.search.Search.TheVariants.{Found, Left}
-use Rattle.ladder_rules.proofs.FrontLemmas.{rungs_front, none_behind}
+use Rattle.ladder_tree.proofs.FrontLemmas.{rungs_front, none_behind}
 use Rattle.ladder_rules.proofs.SearchLemmas.{seek_step, found}
 use Rattle.ladder_rules.proofs.search.first_timer.Goals as goal
 

@@ -1,6 +1,6 @@
 use Rattle.std.proofs.Common.{◌+◌, drop, Some, None}
 use Rattle.ladder_tree.specs.Leaves.{leaves, leaves_in, all_leaves}
-use Rattle.ladder_rules.proofs.FrontLemmas.{nodes_front}
+use Rattle.ladder_tree.proofs.FrontLemmas.{nodes_front}
 use Rattle.ladder_rules.proofs.TimerLemmas.{look_step, look_room}
 use Rattle.ladder_rules.proofs.timers.+look.Goals as goal
 

@@ -3,7 +3,7 @@ use Rattle.std.proofs.lemmas.List.{length-replicate}
 use Rattle.ladder_tree.specs.Leaves.{leaves_in, all_leaves}
 use Rattle.ladder_tree.specs.declared.project.Rung.{Rung}
 use Rattle.ladder_rules.specs.Timers.{look}
-use Rattle.ladder_rules.proofs.FrontLemmas.{rungs_front, none_behind}
+use Rattle.ladder_tree.proofs.FrontLemmas.{rungs_front, none_behind}
 use Rattle.ladder_rules.proofs.TimerLemmas.{look_step, look_room, timers_apart}
 use Rattle.ladder_rules.proofs.timers.timers_differ.Goals as goal
 

@@ -5,7 +5,8 @@ use Rattle.ladder_tree.specs.declared.project.Rung.{Rung}
 use Rattle.ladder_rules.specs.Places.{placed_series, all_placed}
 use Rattle.ladder_rules.specs.Rules.{fault_of}
 use Rattle.ladder_rules.specs.Walk.{walk}
-use Rattle.ladder_rules.proofs.FrontLemmas.{placed_front, none_behind}
+use Rattle.ladder_tree.proofs.FrontLemmas.{none_behind}
+use Rattle.ladder_rules.proofs.FrontLemmas.{placed_front}
 use Rattle.ladder_rules.proofs.WalkLemmas.{walk_step, room_step, room, whole_walk, refused, accepted}
 use Rattle.ladder_rules.proofs.walk.keeps.Goals as goal
 

@@ -1,7 +1,7 @@
 use Rattle.std.proofs.Common.{◌≡◌, ◌++◌, length, map}
 use Rattle.std.specs.Prelude.{filter}
-use Rattle.ld_base.specs.Lines.{pieces}
-use Rattle.ladder_trace.specs.Line.{is_some_bytes, tokens}
+use Rattle.texts.specs.Lines.{pieces, is_some_bytes}
+use Rattle.ladder_trace.specs.Line.{tokens}
 use Rattle.ladder_trace.proofs.reader.tokens.Given as goal
 
 abbrev pub invariant-loop-piece : goal.invariant-loop-piece

@@ -1,5 +1,5 @@
 use Rattle.std.proofs.Common.{◌≡◌, ◌+◌, ◌≤◌, length}
-use Rattle.ld_base.specs.Lines.{lines}
+use Rattle.texts.specs.Lines.{lines}
 use Rattle.ladder_trace.specs.Token.{IsReadingOf}
 use Rattle.ladder_trace.specs.Trace.{read, read_from}
 use Rattle.ladder_trace.specs.Held.{reading, draft}

@@ -1,9 +1,9 @@
-use Rattle.std.proofs.Common.{◌≡◌, ◌≤◌, true, ◌++◌, length}
+use Rattle.std.proofs.Common.{◌≡◌, ◌+◌, ◌-◌, ◌≤◌, true, ◌++◌, length}
 use Rattle.ld_base.specs.Bytes.{SameHeld}
 use Rattle.ld_base.proofs.whole.read_rest.Given as goal
 
-abbrev pub invariant-loop-turn : goal.invariant-loop-turn
-invariant-loop-turn g l =
+abbrev pub invariant-loop-buf : goal.invariant-loop-buf
+invariant-loop-buf g l =
     let f = g.F.Files in
     record {
       buffer : length l.buf ≡ 4096;
@@ -12,7 +12,10 @@ invariant-loop-turn g l =
       reads : (f.counts l.fn.files).reads ≤ (f.counts l.files).reads;
       absences : (f.counts l.files).absences ≡ (f.counts l.fn.files).absences;
       writes : (f.counts l.files).writes ≡ (f.counts l.fn.files).writes;
-      progress : l.turn ≤ length l.all.items;
+      short : length l.all.items ≤ l.limit + 1;
       bytes : f.tells ≡ true → f.left l.fn.files ≡ l.all.items ++ f.left l.files;
       held : f.tells ≡ true → SameHeld (f.held l.fn.files) (f.held l.files);
     }
+
+abbrev pub decreases-loop-buf : goal.decreases-loop-buf
+decreases-loop-buf g l = l.limit + 1 - length l.all.items

@@ -1,6 +1,6 @@
 use Rattle.std.proofs.Common.{◌≡◌, true, get_or, refl, ◌∙◌, arith, ap, ◌+◌, ◌-◌, ◌*◌, ◌^◌, min, drop}
 use Rattle.std.proofs.lemmas.Bool.Decides.{nat_tests}
-use Rattle.ladder_tree.specs.Names.{is_digit}
+use Rattle.texts.specs.Digits.{is_digit}
 use Rattle.ld_line.proofs.NumberLemmas.{digit_more, rest_of}
 use Rattle.ld_line.proofs.number.size_of_digits.Goals as goal
 

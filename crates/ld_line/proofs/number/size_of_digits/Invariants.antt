@@ -1,6 +1,6 @@
 use Rattle.std.proofs.Common.{◌≡◌, ◌≤◌, ◌-◌, ◌^◌, min, drop}
 use Rattle.std.specs.Option.{option_map}
-use Rattle.ld_line.specs.Numbers.{digits}
+use Rattle.texts.specs.Digits.{digits}
 use Rattle.ld_line.proofs.NumberLemmas.{rest_of}
 use Rattle.ld_line.proofs.number.size_of_digits.Given as goal
 

@@ -1,4 +1,4 @@
-use Rattle.ld_line.specs.Numbers.{digits}
+use Rattle.texts.specs.Digits.{digits}
 use Rattle.ld_line.proofs.NumberLemmas.{no_size, some_size}
 use Rattle.ld_line.proofs.number.with_sign.Goals as goal
 

@@ -1,5 +1,5 @@
 use Rattle.std.proofs.Common.{◌+◌, ◌∙◌, ◌∷◌, [], ◌++◌, ap, drop, codes}
-use Rattle.ld_base.specs.Lines.{joined}
+use Rattle.texts.specs.Lines.{joined}
 use Rattle.ld_print.specs.Printed.{indented, node_lines, nodes_lines}
 use Rattle.ld_print.proofs.JoinedLemmas.{front, lines_more, lines_settled, form_written}
 use Rattle.ld_print.proofs.write.+nodes.Goals as goal

@@ -1,5 +1,5 @@
 use Rattle.std.proofs.Common.{◌≡◌, ◌++◌, drop}
-use Rattle.ld_base.specs.Lines.{joined}
+use Rattle.texts.specs.Lines.{joined}
 use Rattle.ld_print.specs.Printed.{nodes_lines}
 use Rattle.ld_print.proofs.write.+nodes.Given as goal
 

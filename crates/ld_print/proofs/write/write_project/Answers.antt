@@ -1,5 +1,5 @@
 use Rattle.std.proofs.Common.{◌∷◌, [], ◌++◌, ◌∙◌, codes, ap}
-use Rattle.ld_base.specs.Lines.{joined}
+use Rattle.texts.specs.Lines.{joined}
 use Rattle.ld_print.specs.Printed.{head_lines, pin_lines, rungs_lines}
 use Rattle.ld_print.proofs.JoinedLemmas.{whole_written}
 use Rattle.ld_print.proofs.write.write_project.Goals as goal

@@ -1,0 +1,48 @@
+//! Tries the chips' tables, instructions, machine and files by cases from the standard input: each line is a case, and for each
+//! the program prints a line with what comes of it. The modules say which words a case has.
+#![tactic(auto)]
+
+mod bench;
+mod files;
+mod insns;
+mod tables;
+mod words;
+
+use bench::Bench;
+use std::alloc::Global;
+use std::io;
+use std::io::{BufRead, BufReader};
+use std::process::ExitCode;
+use words::CaseError;
+
+/// What comes of the case that a line is.
+fn answer(alloc: Global, bench: &mut Bench, line: &str) -> Result<String, CaseError> {
+    let words: Vec<&str> = line.split(' ').collect(alloc)?;
+    match words.as_slice() {
+        ["table", rest @ ..] => tables::answer(alloc, rest),
+        ["insn", rest @ ..] => insns::answer(alloc, rest),
+        ["file", rest @ ..] => files::answer(alloc, rest),
+        ["machine", rest @ ..] => bench.answer(alloc, rest),
+        _ => Err(CaseError::NoCase),
+    }
+}
+
+fn run(rt: &(impl Input + Print + AllocGlobal)) -> io::Result<()> {
+    let mut bench = Bench::new();
+    for line in BufReader::new(rt.alloc(), rt.reader())?.lines(rt.alloc()) {
+        let line = line?;
+        match answer(rt.alloc(), &mut bench, line.as_str()) {
+            Ok(text) => println!(rt; "{line} -> {text}")?,
+            Err(CaseError::NoCase) => println!(rt; "{line}: no case")?,
+            Err(CaseError::Memory(e)) => return Err(e.into()),
+        }
+    }
+    Ok(())
+}
+
+fn main(rt: HostRuntime) -> ExitCode {
+    match run(&rt) {
+        Ok(()) => ExitCode::from(0),
+        Err(_) => ExitCode::from(1),
+    }
+}

@@ -1,0 +1,83 @@
+//! Cases of the tables: the name of a table, a target, and the other arguments of the call in decimal digits.
+
+use crate::words::{CaseError, number, short, target};
+use chip_tables::{
+    CostKind, Target, adc_channel, baud_setting, cost, eeprom_have, flash_words, pin_of, pwm_pin,
+    pwm_setting, ram_byte, ram_have, rx_pin, timer_setting, tx_pin,
+};
+use std::alloc::Global;
+
+/// What the call gives.
+pub fn answer(alloc: Global, words: &[&str]) -> Result<String, CaseError> {
+    match words {
+        [table, chip] => of_target(alloc, table, target(chip)?),
+        [table, chip, one] => of_one(alloc, table, target(chip)?, one),
+        [table, chip, one, other] => {
+            of_two(alloc, table, target(chip)?, number(one)?, number(other)?)
+        }
+        _ => Err(CaseError::NoCase),
+    }
+}
+
+fn of_target(alloc: Global, table: &str, chip: Target) -> Result<String, CaseError> {
+    match table {
+        "pins" => Ok(format!(in alloc; "{}", pin_count(chip))?),
+        "devices" => Ok(format!(in alloc;
+            "{:?} {:?} {:?}",
+            rx_pin(chip),
+            tx_pin(chip),
+            pwm_pin(chip)
+        )?),
+        "memories" => {
+            Ok(format!(in alloc;
+                "{} {} {:?}",
+                ram_have(chip),
+                eeprom_have(chip),
+                flash_words(chip)
+            )?)
+        }
+        _ => Err(CaseError::NoCase),
+    }
+}
+
+fn of_one(alloc: Global, table: &str, chip: Target, word: &str) -> Result<String, CaseError> {
+    match table {
+        "pin" => Ok(format!(in alloc; "{:?}", pin_of(chip, short(word)?))?),
+        "channel" => Ok(format!(in alloc; "{:?}", adc_channel(chip, short(word)?))?),
+        "byte" => Ok(format!(in alloc; "{:?}", ram_byte(chip, number(word)?))?),
+        "cost" => Ok(format!(in alloc; "{:?}", cost(chip, kind(word)?))?),
+        _ => Err(CaseError::NoCase),
+    }
+}
+
+fn of_two(
+    alloc: Global,
+    table: &str,
+    chip: Target,
+    one: u32,
+    other: u32,
+) -> Result<String, CaseError> {
+    match table {
+        "timer" => Ok(format!(in alloc; "{:?}", timer_setting(chip, one, other))?),
+        "baud" => Ok(format!(in alloc; "{:?}", baud_setting(chip, one, other))?),
+        "pwm" => Ok(format!(in alloc; "{:?}", pwm_setting(chip, one, other))?),
+        _ => Err(CaseError::NoCase),
+    }
+}
+
+/// How many of the pins below 100 carry a port bit.
+fn pin_count(chip: Target) -> usize {
+    (0..100).filter(|pin| pin_of(chip, *pin).is_some()).count()
+}
+
+/// The kinds that the cases name.
+fn kind(word: &str) -> Result<CostKind, CaseError> {
+    match word {
+        "Shift" => Ok(CostKind::Shift),
+        "Table" => Ok(CostKind::Table),
+        "SetPwm" => Ok(CostKind::SetPwm),
+        "Persist" => Ok(CostKind::Persist),
+        "MasterRelay" => Ok(CostKind::MasterRelay),
+        _ => Err(CaseError::NoCase),
+    }
+}

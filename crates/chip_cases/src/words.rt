@@ -1,0 +1,49 @@
+//! The words of a case.
+
+use chip_tables::Target;
+use std::alloc::AllocError;
+
+/// Why a line has no answer.
+#[derive(Debug, Drop)]
+pub enum CaseError {
+    /// It is no case.
+    NoCase,
+    Memory(AllocError),
+}
+
+impl From<AllocError> for CaseError {
+    fn from(e: AllocError) -> CaseError {
+        CaseError::Memory(e)
+    }
+}
+
+pub fn target(word: &str) -> Result<Target, CaseError> {
+    match word {
+        "F628" => Ok(Target::F628),
+        "F877" => Ok(Target::F877),
+        "Mega16" => Ok(Target::Mega16),
+        "Interp" => Ok(Target::Interp),
+        "AnsiC" => Ok(Target::AnsiC),
+        _ => Err(CaseError::NoCase),
+    }
+}
+
+/// A number in decimal digits.
+pub fn number(word: &str) -> Result<u32, CaseError> {
+    word.parse::<u32>().map_err(|_| CaseError::NoCase)
+}
+
+/// A number of 16 bits in decimal digits.
+pub fn short(word: &str) -> Result<u16, CaseError> {
+    word.parse::<u16>().map_err(|_| CaseError::NoCase)
+}
+
+/// A number of 16 bits in hexadecimal digits.
+pub fn hex_word(word: &str) -> Result<u16, CaseError> {
+    u16::from_str_radix(word, 16).map_err(|_| CaseError::NoCase)
+}
+
+/// A byte in hexadecimal digits.
+pub fn hex_byte(word: &str) -> Result<u8, CaseError> {
+    u8::from_str_radix(word, 16).map_err(|_| CaseError::NoCase)
+}

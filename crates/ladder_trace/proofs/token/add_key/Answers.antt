@@ -1,5 +1,0 @@
-use Rattle.ladder_trace.proofs.KeyLemmas.{key_added}
-use Rattle.ladder_trace.proofs.token.add_key.Goals as goal
-
-pub returns : goal.returns
-returns c = key_added c.args.key c.args.keys.now.keys c.insert.new.self.keys c.in_ok-insert.field-0 c.in_ok-insert.ensures.added c.in_ok-insert.ensures.keys

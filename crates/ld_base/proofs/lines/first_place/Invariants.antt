@@ -1,8 +1,0 @@
-use Rattle.std.proofs.Common.{◌≡◌, ◌≢◌, take, All}
-use Rattle.ld_base.proofs.lines.first_place.Given as goal
-
-abbrev pub invariant-loop-byte : goal.invariant-loop-byte
-invariant-loop-byte l = record {
-  place_at : l.place ≡ l.byte-index;
-  clean : All (λ x. x ≢ l.separator) (take l.byte-index l.text);
-}

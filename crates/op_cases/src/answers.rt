@@ -1,0 +1,116 @@
+use crate::formed::{formed, nests, table, wrapped};
+use crate::places::{cell, fit, flag};
+use crate::program_texts::{sizes, verdict, written};
+use crate::runs::{cycles, lines};
+use crate::traces::{saved, steps};
+use case_script::{Answers, Command};
+use std::alloc::{AllocError, Global};
+
+/// What stands around the texts that follow, the text of the program that runs, and how it runs.
+#[derive(Drop)]
+pub struct Programs {
+    front: Vec<u8>,
+    back: Vec<u8>,
+    program: Vec<u8>,
+    /// Which write of a run fails, from 1; 0 is none.
+    failing: u64,
+    shows_duty: bool,
+}
+
+impl Programs {
+    pub fn new(alloc: Global) -> Programs {
+        Programs {
+            front: Vec::new(alloc),
+            back: Vec::new(alloc),
+            program: Vec::new(alloc),
+            failing: 0,
+            shows_duty: false,
+        }
+    }
+
+    /// The text between its front and its back.
+    fn whole(&self, alloc: Global, text: &[u8]) -> Result<Vec<u8>, AllocError> {
+        let mut all = Vec::from_slice(alloc, self.front.as_slice())?;
+        all.extend_from_slice(text)?;
+        all.extend_from_slice(self.back.as_slice())?;
+        Ok(all)
+    }
+
+    /// What an interpretable text is asked for.
+    fn asked_of_text(
+        &self,
+        alloc: Global,
+        command: &Command<'_>,
+    ) -> Result<Option<String>, AllocError> {
+        let text = self.whole(alloc, command.text.as_slice())?;
+        let text = text.as_slice();
+        Ok(Some(match command.word {
+            "read" => verdict(alloc, text)?,
+            "sizes" => sizes(alloc, text)?,
+            "write" => written(alloc, text)?,
+            _ => return Ok(None),
+        }))
+    }
+
+    /// What a trace is asked for.
+    fn asked_of_trace(
+        &self,
+        alloc: Global,
+        command: &Command<'_>,
+    ) -> Result<Option<String>, AllocError> {
+        let program = self.program.as_slice();
+        let trace = command.text.as_slice();
+        Ok(Some(match command.word {
+            "steps" => steps(alloc, program, trace)?,
+            "eeprom" => saved(alloc, program, trace)?,
+            "cycles" => cycles(alloc, program, trace)?,
+            "lines" => lines(alloc, program, trace, self.shows_duty, self.failing)?,
+            _ => return Ok(None),
+        }))
+    }
+
+    /// What numbers are asked for.
+    fn asked_of_numbers(
+        &self,
+        alloc: Global,
+        command: &Command<'_>,
+    ) -> Result<Option<String>, AllocError> {
+        let argument = command.argument;
+        Ok(Some(match command.word {
+            "formed" => formed(alloc, self.front.as_slice(), argument)?,
+            "nests" => nests(alloc, argument)?,
+            "table" => table(alloc, argument)?,
+            "wrap" => wrapped(alloc, argument)?,
+            "fit" => fit(alloc, argument)?,
+            "cell" => cell(alloc, argument)?,
+            "bit" => flag(alloc, argument)?,
+            _ => return Ok(None),
+        }))
+    }
+}
+
+impl Answers for Programs {
+    fn answer(&mut self, alloc: Global, command: &Command<'_>) -> Result<String, AllocError> {
+        let text = command.text.as_slice();
+        match command.word {
+            "front" => self.front = Vec::from_slice(alloc, text)?,
+            "back" => self.back = Vec::from_slice(alloc, text)?,
+            "program" => self.program = Vec::from_slice(alloc, text)?,
+            "failing" => self.failing = command.argument.parse::<u64>().unwrap_or(0),
+            "duty" => self.shows_duty = command.argument == "shown",
+            _ => {
+                if let Some(answer) = self.asked_of_text(alloc, command)? {
+                    return Ok(answer);
+                }
+                if let Some(answer) = self.asked_of_trace(alloc, command)? {
+                    return Ok(answer);
+                }
+                if let Some(answer) = self.asked_of_numbers(alloc, command)? {
+                    return Ok(answer);
+                }
+                return String::from_str(alloc, "no such command");
+            }
+        }
+        Ok(String::new(alloc))
+    }
+}

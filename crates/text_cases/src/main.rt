@@ -1,0 +1,17 @@
+//! Cases of project texts: what is read of them, what they are refused for, and how they are printed back.
+#![tactic(auto)]
+
+mod answers;
+mod lines;
+mod names;
+mod printing;
+mod reading;
+
+use answers::Texts;
+use case_script::play;
+use std::io;
+
+fn main(rt: HostRuntime) -> io::Result<()> {
+    let script = io::read_to_string(rt.alloc(), rt.reader())?;
+    play(&rt, script.as_str(), &mut Texts::new(rt.alloc()))
+}

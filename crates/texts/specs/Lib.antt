@@ -1,0 +1,5 @@
+pub mod Lines
+pub mod Digits
+pub mod Limits
+pub mod Keys
+pub mod Refusal
