@@ -7,9 +7,9 @@ top=$(cd "$(dirname "$0")/.." && pwd)
 folder=$(mktemp -d)
 trap 'rm -rf "$folder"' EXIT
 mkdir -p "$folder/crates/avr_steps/src"
-cp -r "$top"/crates/{chip_tables,insn_rows,avr_devices,avr_mach} "$folder/crates"
+cp -r "$top"/crates/{chip_tables,runs,insn_rows,avr_devices,avr_mach} "$folder/crates"
 cp "$top/bench/avr_steps.program" "$folder/crates/avr_steps/src/main.rt"
-grep -E '^(chip_tables|insn_rows|avr_devices|avr_mach):' "$top/crates.txt" >"$folder/crates.txt"
-echo 'avr_steps: avr_mach chip_tables' >>"$folder/crates.txt"
+grep -E '^(chip_tables|runs|insn_rows|avr_devices|avr_mach):' "$top/crates.txt" >"$folder/crates.txt"
+echo 'avr_steps: avr_mach avr_devices chip_tables runs' >>"$folder/crates.txt"
 cd "$folder/crates/avr_steps"
 rt run | tail -n 1

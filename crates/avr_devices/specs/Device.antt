@@ -69,6 +69,6 @@ abbrev pub eeprom_address : Eeprom → ℕ
 eeprom_address e = (e.address_high * 256 + e.address_low) % 512
 
 -- EECR: bit 2 shows that a write is unlocked, bit 1 that one is going on, bit 0 nothing
-abbrev pub eeprom_status : AvrDevices → ℕ → ℕ
-eeprom_status d unlock =
-    d.eeprom.control / 8 * 8 + (as_bit (nat_lt 0 unlock) * 4 + as_bit d.reading.ee_busy * 2)
+abbrev pub eeprom_status : AvrDevices → ℕ
+eeprom_status d =
+    d.eeprom.control / 8 * 8 + (as_bit (nat_lt 0 d.eeprom.unlock) * 4 + as_bit d.reading.ee_busy * 2)

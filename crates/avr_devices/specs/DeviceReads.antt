@@ -2,9 +2,9 @@
 use Rattle.std.specs.Prelude.{ℕ, ◌*◌, ◌/◌, ◌%◌, if◌then◌else◌, None, unwrap_or, slice_index}
 use Rattle.avr_devices.specs.declared.devices.AvrDevices.{AvrDevices}
 use Rattle.avr_devices.specs.declared.io_space.IoRegister.{IoRegister}
-use Rattle.avr_devices.specs.declared.io_space.IoRegister.TheVariants.{Adcl, Adch, Adcsra, Admux, Ubrrl, Ucsrb, Ucsra, Udr, Pind, Ddrd, Portd, Pinc, Ddrc, Portc, Pinb, Ddrb, Portb, Pina, Ddra, Porta, Eedr, Eearl, Eearh, Ubrrh, Ocr2, Tccr2, Ocr1al, Ocr1ah, Tccr1b, Tccr1a, Tifr}
+use Rattle.avr_devices.specs.declared.io_space.IoRegister.TheVariants.{Adcl, Adch, Adcsra, Admux, Ubrrl, Ucsrb, Ucsra, Udr, Pind, Ddrd, Portd, Pinc, Ddrc, Portc, Pinb, Ddrb, Portb, Pina, Ddra, Porta, Eecr, Eedr, Eearl, Eearh, Ubrrh, Ocr2, Tccr2, Ocr1al, Ocr1ah, Tccr1b, Tccr1a, Tifr}
 use Rattle.chip_tables.specs.Bits.{as_bit}
-use Rattle.avr_devices.specs.Device.{pins, received, serial_status, converter_status, is_converting, is_serial_on}
+use Rattle.avr_devices.specs.Device.{pins, received, serial_status, eeprom_status, converter_status, is_converting, is_serial_on}
 
 -- the registers that are the processor's, and those that are absent, are no device's
 abbrev pub device_byte : AvrDevices → IoRegister → ℕ
@@ -28,6 +28,7 @@ device_byte d Portb = d.port_b.latch
 device_byte d Pina = pins d.port_a (slice_index d.reading.levels 0)
 device_byte d Ddra = d.port_a.direction
 device_byte d Porta = d.port_a.latch
+device_byte d Eecr = eeprom_status d
 device_byte d Eedr = d.eeprom.data_byte
 device_byte d Eearl = d.eeprom.address_low
 device_byte d Eearh = d.eeprom.address_high

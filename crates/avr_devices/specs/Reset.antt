@@ -1,21 +1,10 @@
 -- The devices after a reset: ATmega16 data sheet, "Register Summary"; what the data sheet leaves open is 0 here.
-use Rattle.std.specs.Prelude.{ℕ, List, [], ◌∷◌, false, None}
-use Rattle.chip_tables.specs.declared.outside.PinReading.{PinReading}
+use Rattle.std.specs.Prelude.{ℕ, List, false}
+use Rattle.chip_tables.specs.Outside.{no_reading}
 use Rattle.chip_tables.specs.declared.settings.Settings.{Settings}
 use Rattle.avr_devices.specs.declared.devices.AvrDevices.{AvrDevices}
 use Rattle.avr_devices.specs.declared.devices.AvrPort.{AvrPort}
 use Rattle.avr_devices.specs.declared.devices.Conversion.TheVariants.{Idle}
-
--- before the first reading all levels and values are 0, no byte is there, and nothing is busy
-abbrev pub no_reading : PinReading
-no_reading =
-    record {
-      levels = 0 ∷ 0 ∷ 0 ∷ 0 ∷ 0 ∷ [];
-      adc = 0 ∷ 0 ∷ 0 ∷ 0 ∷ 0 ∷ 0 ∷ 0 ∷ 0 ∷ [];
-      rx = None;
-      tx_busy = false;
-      ee_busy = false;
-    }
 
 abbrev pub input_port : AvrPort
 input_port = record { latch = 0; direction = 0 }
@@ -32,6 +21,6 @@ reset_devices eeprom settings =
       timer = record { control_a = 0; control_b = 0; compare = 0; held = 0; flag = false };
       serial = record { rate_low = 0; rate_high = 0; control = 0; status = 0 };
       converter = record { control = 0; input = 0; result = 0; conversion = Idle };
-      eeprom = record { bytes = eeprom; address_low = 0; address_high = 0; data_byte = 0; control = 0 };
+      eeprom = record { bytes = eeprom; address_low = 0; address_high = 0; data_byte = 0; control = 0; unlock = 0 };
       modulator = record { control = 0; duty = 0 };
     }

@@ -2,7 +2,7 @@
 
 ghost use Rattle.std.specs.Prelude.{◌≡◌, ◌+◌, ◌*◌, ◌%◌, ◌<◌};
 ghost use Rattle.avr_devices.specs.Device.{port_of, is_serial_on, has_rate, converter_status, eeprom_address};
-ghost use Rattle.avr_devices.specs.Reset.{reset_devices, no_reading, input_port};
+ghost use Rattle.avr_devices.specs.Reset.{reset_devices, input_port};
 
 use chip_tables::{BaudSetting, PinReading, Poll, Settings, as_bit, bit_of};
 
@@ -96,6 +96,8 @@ pub struct Eeprom {
     pub data_byte: u8,
     /// EECR as it was written.
     pub control: u8,
+    /// For how many cycles EECR still writes a byte: bit 2 unlocks it.
+    pub unlock: u8,
 }
 
 /// Timer 2 as a pulse-width modulator.
@@ -121,7 +123,7 @@ impl AvrDevices {
     {
         AvrDevices {
             settings: *settings,
-            reading: no_reading(),
+            reading: PinReading::nothing(),
             port_a: input_port(),
             port_b: input_port(),
             port_c: input_port(),
@@ -151,6 +153,7 @@ impl AvrDevices {
                 address_high: 0,
                 data_byte: 0,
                 control: 0,
+                unlock: 0,
             },
             modulator: Modulator {
                 control: 0,
@@ -206,18 +209,6 @@ pub(crate) fn converter_status(control: u8, converting: bool) -> u8
     ensures { result ≡ converter_status control converting }
 {
     control / 128 * 128 + (as_bit(converting) * 64 + control % 64)
-}
-
-fn no_reading() -> PinReading
-    ensures { result ≡ no_reading }
-{
-    PinReading {
-        levels: [0, 0, 0, 0, 0],
-        adc: [0, 0, 0, 0, 0, 0, 0, 0],
-        rx: None,
-        tx_busy: false,
-        ee_busy: false,
-    }
 }
 
 fn input_port() -> AvrPort

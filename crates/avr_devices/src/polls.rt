@@ -51,7 +51,8 @@ impl AvrDevices {
         }
     }
 
-    fn is_timing(&self) -> bool
+    /// Whether the cycle timer counts: it is set up as the settings say.
+    pub fn is_timing(&self) -> bool
         ensures { result ≡ is_timing self.now }
     {
         self.timer.control_a == 0

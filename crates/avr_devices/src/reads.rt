@@ -37,6 +37,7 @@ impl AvrDevices {
             IoRegister::Pina => pins(self.port_a, self.reading.levels[0]),
             IoRegister::Ddra => self.port_a.direction,
             IoRegister::Porta => self.port_a.latch,
+            IoRegister::Eecr => self.eeprom_status(),
             IoRegister::Eedr => self.eeprom.data_byte,
             IoRegister::Eearl => self.eeprom.address_low,
             IoRegister::Eearh => self.eeprom.address_high,
@@ -48,7 +49,7 @@ impl AvrDevices {
             IoRegister::Tccr1b => self.timer.control_b,
             IoRegister::Tccr1a => self.timer.control_a,
             IoRegister::Tifr => as_bit(self.timer.flag) * 16,
-            IoRegister::Eecr | IoRegister::Spl | IoRegister::Sph | IoRegister::Sreg => 0,
+            IoRegister::Spl | IoRegister::Sph | IoRegister::Sreg => 0,
             IoRegister::Absent => 0,
         }
     }
@@ -62,11 +63,11 @@ impl AvrDevices {
         }
     }
 
-    /// What EECR reads as, by the cycles for which the EEPROM stays unlocked.
-    pub fn eeprom_status(&self, unlock: u8) -> u8
-        ensures { result ≡ eeprom_status self.now unlock }
+    fn eeprom_status(&self) -> u8
+        ensures { result ≡ eeprom_status self.now }
     {
-        self.eeprom.control / 8 * 8 + (as_bit(0 < unlock) * 4 + as_bit(self.reading.ee_busy) * 2)
+        self.eeprom.control / 8 * 8
+            + (as_bit(0 < self.eeprom.unlock) * 4 + as_bit(self.reading.ee_busy) * 2)
     }
 
     fn received(&self) -> Option<u8>

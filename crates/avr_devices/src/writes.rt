@@ -1,17 +1,18 @@
 //! What writes to the device registers do.
 
-ghost use Rattle.std.specs.Prelude.{◌≡◌};
+ghost use Rattle.std.specs.Prelude.{◌≡◌, ◌<◌};
 ghost use Rattle.avr_devices.specs.Device.{sent_by, conversion_by};
-ghost use Rattle.avr_devices.specs.DeviceWrites.{device_written, sent_to, converter_written, byte_sent, rate_high_written, flags_written, eeprom_stored, eeprom_fetched, eeprom_written};
+ghost use Rattle.avr_devices.specs.DeviceWrites.{device_written, sent_to, converter_written, byte_sent, rate_high_written, flags_written, eeprom_stored, eeprom_fetched, eeprom_written, cycles_passed};
 
 use crate::devices::{AvrDevices, Conversion, Converter, CycleTimer};
 use crate::io_space::IoRegister;
 use chip_tables::bit_of;
 
 impl AvrDevices {
-    /// A device register takes a byte; gives the byte that is sent by that.
-    pub fn write(&mut self, register: IoRegister, x: u8) -> Option<u8>
-        ensures state { self.new ≡ device_written self.old register x }
+    /// A device register takes a byte by an instruction of so many cycles; gives the byte that is sent by that.
+    pub fn write(&mut self, register: IoRegister, x: u8, cycles: u8) -> Option<u8>
+        requires { cycles < 8 }
+        ensures state { self.new ≡ device_written self.old register x cycles }
         ensures sent { result ≡ sent_to self.old register x }
     {
         match register {
@@ -29,6 +30,7 @@ impl AvrDevices {
             IoRegister::Portb => self.port_b.latch = x,
             IoRegister::Ddra => self.port_a.direction = x,
             IoRegister::Porta => self.port_a.latch = x,
+            IoRegister::Eecr => self.write_eeprom(x, cycles),
             IoRegister::Eedr => self.eeprom.data_byte = x,
             IoRegister::Eearl => self.eeprom.address_low = x,
             IoRegister::Eearh => self.eeprom.address_high = x,
@@ -44,25 +46,34 @@ impl AvrDevices {
             IoRegister::Tifr => self.timer.write_flags(x),
             IoRegister::Adcl | IoRegister::Adch => {}
             IoRegister::Pina | IoRegister::Pinb | IoRegister::Pinc | IoRegister::Pind => {}
-            IoRegister::Eecr | IoRegister::Spl | IoRegister::Sph | IoRegister::Sreg => {}
+            IoRegister::Spl | IoRegister::Sph | IoRegister::Sreg => {}
             IoRegister::Absent => {}
         }
         None
     }
 
-    /// EECR takes a byte.
-    pub fn write_eeprom(&mut self, x: u8, unlocked: bool)
-        ensures { self.new ≡ eeprom_written self.old x unlocked }
+    /// Cycles pass, also for the unlocked EEPROM.
+    pub fn pass(&mut self, cycles: u8)
+        ensures { self.new ≡ cycles_passed self.old cycles }
     {
-        self.store_byte(x, unlocked);
-        self.fetch_byte(x);
-        self.eeprom.control = x;
+        self.eeprom.unlock = self.eeprom.unlock.saturating_sub(cycles);
     }
 
-    fn store_byte(&mut self, x: u8, unlocked: bool)
-        ensures { self.new ≡ eeprom_stored self.old x unlocked }
+    /// EECR takes a byte.
+    fn write_eeprom(&mut self, x: u8, cycles: u8)
+        requires { cycles < 8 }
+        ensures { self.new ≡ eeprom_written self.old x cycles }
     {
-        if bit_of(x, 1) && (unlocked && !self.reading.ee_busy) {
+        self.store_byte(x, cycles);
+        self.fetch_byte(x);
+        self.eeprom.control = x;
+        self.eeprom.unlock = if bit_of(x, 2) { 4 + cycles } else { 0 };
+    }
+
+    fn store_byte(&mut self, x: u8, cycles: u8)
+        ensures { self.new ≡ eeprom_stored self.old x cycles }
+    {
+        if bit_of(x, 1) && (cycles <= self.eeprom.unlock && !self.reading.ee_busy) {
             let address = self.eeprom.address();
             self.eeprom.bytes[address as usize] = self.eeprom.data_byte;
             self.reading.ee_busy = true;

@@ -20,7 +20,8 @@ no_row : InsnRow
 no_row = record { mask = 0; bits = 1; kind = 0 }
 
 -- a word that matches a row is decoded by it
-back : (k w next : ℕ) → k < 40 → is_match w (get_or avr_rows k no_row) ≡ true → avr_decode w next ≡ option_map (λ kind. insn_of kind w next) (slice_get (map (λ f. f.kind) avr_forms) k)
+back : (k w next : ℕ) → k < 40 → is_match w (get_or avr_rows k no_row) ≡ true →
+    avr_decode w next ≡ option_map (λ kind. insn_of kind w next) (slice_get (map (λ f. f.kind) avr_forms) k)
 back k w next within m =
     ap (λ place. option_map (λ kind. insn_of kind w next) (option_and_then (slice_get (map (λ f. f.kind) avr_forms)) place)) (only_match avr_rows w k no_row tested within m)
 
@@ -71,14 +72,16 @@ call_bit zero h = refl
 call_bit (suc zero) h = refl
 call_bit (suc (suc l)) h = absurd (omega arith)
 
-far_word : (c place : ℕ) → place < 2 ^ 22 → c + place / 65536 % 2 < 16 → bit_and (c + place / 65536 % 2) 14 ≡ c → bit_and (0x9400 + c + (place / 131072 * 16 + place / 65536 % 2)) 0xfe0e ≡ 0x9400 + c
+far_word : (c place : ℕ) → place < 2 ^ 22 → c + place / 65536 % 2 < 16 → bit_and (c + place / 65536 % 2) 14 ≡ c →
+    bit_and (0x9400 + c + (place / 131072 * 16 + place / 65536 % 2)) 0xfe0e ≡ 0x9400 + c
 far_word c place hp hc low =
     let e : 74 * 2 ^ 9 + (place / 131072 * 16 + (c + place / 65536 % 2)) ≡ 0x9400 + c + (place / 131072 * 16 + place / 65536 % 2) = omega arith in
     ap (λ n. bit_and n 0xfe0e) (sym e)
     ∙ high_low 9 74 127 (place / 131072 * 16 + (c + place / 65536 % 2)) 14 c (omega arith) (lit< tt) refl
     (below 4 (place / 131072) (c + place / 65536 % 2) 14 c hc (lit< tt) low)
 
-far_back : (c place next : ℕ) → place < 2 ^ 22 → c + place / 65536 % 2 < 16 → c % 2 ≡ 0 → next ≡ place % 65536 → long_place (0x9400 + c + (place / 131072 * 16 + place / 65536 % 2)) next ≡ place
+far_back : (c place next : ℕ) → place < 2 ^ 22 → c + place / 65536 % 2 < 16 → c % 2 ≡ 0 → next ≡ place % 65536 →
+    long_place (0x9400 + c + (place / 131072 * 16 + place / 65536 % 2)) next ≡ place
 far_back c place next hp hc even e = omega (arith, e)
 
 -- a status bit between nine bits above it and four below
@@ -89,7 +92,8 @@ status a s h ha =
     ∙ high_low 7 a 511 (s * 16 + 8) 15 8 (omega arith) (lit< tt) ha (below 4 s 8 15 8 (lit< tt) (lit< tt) refl)
 
 -- a displacement stands in three parts of the word
-displaced_word : (n d q : ℕ) → n < 2 → d < 32 → q < 64 → bit_and n 1 ≡ n → bit_and (0x8008 + n * 512 + (q / 32 * 8192 + q / 8 % 4 * 1024 + d * 16 + q % 8)) 0xd208 ≡ 0x8008 + n * 512
+displaced_word : (n d q : ℕ) → n < 2 → d < 32 → q < 64 → bit_and n 1 ≡ n →
+    bit_and (0x8008 + n * 512 + (q / 32 * 8192 + q / 8 % 4 * 1024 + d * 16 + q % 8)) 0xd208 ≡ 0x8008 + n * 512
 displaced_word n d q hn hd hq hb =
     let e : 2 * 2 ^ 14 + (q / 32 * 2 ^ 13 + (0 * 2 ^ 12 + (q / 8 % 4 * 2 ^ 10 + (n * 2 ^ 9 + (d * 2 ^ 4 + (1 * 2 ^ 3 + q % 8)))))) ≡ 0x8008 + n * 512 + (q / 32 * 8192 + q / 8 % 4 * 1024 + d * 16 + q % 8) = omega arith in
     let f : 2 * 2 ^ 14 + (0 * 2 ^ 12 + (n * 2 ^ 9 + 8)) ≡ 0x8008 + n * 512 = omega arith in
@@ -102,7 +106,8 @@ displaced_word n d q hn hd hq hb =
     (below 4 d (1 * 2 ^ 3 + q % 8) 8 8 (omega arith) (lit< tt) (high 3 1 1 (q % 8) (omega arith) refl))))))
     ∙ f
 
-displaced_back : (n d q : ℕ) → n < 2 → d < 32 → q < 64 → let w = 0x8008 + n * 512 + (q / 32 * 8192 + q / 8 % 4 * 1024 + d * 16 + q % 8) in (reg_d w ≡ d) × (displacement w ≡ q)
+displaced_back : (n d q : ℕ) → n < 2 → d < 32 → q < 64 →
+    let w = 0x8008 + n * 512 + (q / 32 * 8192 + q / 8 % 4 * 1024 + d * 16 + q % 8) in (reg_d w ≡ d) × (displacement w ≡ q)
 displaced_back n d q hn hd hq = (omega arith, omega arith)
 
 -- the fields of a word are found again

@@ -8,14 +8,15 @@ use Rattle.avr_mach.specs.declared.insn.AvrInsn.TheVariants.{Brbs, Brbc, Bset, B
 use Rattle.avr_mach.specs.declared.state.AvrState.{AvrState}
 use Rattle.avr_mach.specs.declared.state.Flow.TheVariants.{Next, Skip, To}
 use Rattle.chip_tables.specs.Bits.{bit_of}
+use Rattle.chip_tables.specs.declared.mega16.TheConstants.{FLASH_WORDS, SRAM_FIRST, SRAM_END}
 use Rattle.avr_mach.specs.Memory.{ram_byte, with_ram}
 use Rattle.avr_mach.specs.State.{After, after, reg, flag, with_flag}
 use Rattle.avr_mach.specs.Transfer.{transfer}
 
--- the place after the next one by k, a two's complement with `half` as its sign; the flash has 8192 words
+-- the place after the next one by k, a two's complement with `half` as its sign, around the flash
 abbrev pub near : ℕ → ℕ → ℕ → ℕ
 near here k half =
-    if nat_lt k half then (here + 1 + k) % 8192 else (here + 1 + k + (8192 - 2 * half)) % 8192
+    if nat_lt k half then (here + 1 + k) % FLASH_WORDS else (here + 1 + k + (FLASH_WORDS - 2 * half)) % FLASH_WORDS
 
 abbrev pub branch : AvrState → Bool → ℕ → ℕ → After
 branch m taken here k = if taken then after m (To (near here k 64)) 2 else after m Next 1
@@ -48,15 +49,15 @@ control env i here m = transfer env i m
 
 -- the bytes that a call pushes are in the SRAM
 abbrev pub call_obstacle : AvrState → Option StuckCause
-call_obstacle m = if nat_le 0x61 m.stack && nat_lt m.stack 0x460 then None else Some StackDepth
+call_obstacle m = if nat_lt SRAM_FIRST m.stack && nat_lt m.stack SRAM_END then None else Some StackDepth
 
 -- and those that a return pops
 abbrev pub return_obstacle : AvrState → Option StuckCause
-return_obstacle m = if nat_le 0x5f m.stack && nat_lt m.stack 0x45e then None else Some StackDepth
+return_obstacle m = if nat_le SRAM_FIRST (m.stack + 1) && nat_lt (m.stack + 2) SRAM_END then None else Some StackDepth
 
 -- the second word is in the flash
 abbrev pub has_second_word : AvrState → Bool
-has_second_word m = nat_lt (m.place + 1) 8192
+has_second_word m = nat_lt (m.place + 1) FLASH_WORDS
 
 -- why an instruction has no step
 abbrev pub obstacle : AvrInsn → AvrState → Option StuckCause
@@ -73,5 +74,5 @@ obstacle _ m = None
 abbrev pub HasRoom : AvrInsn → AvrState → Type 0
 HasRoom (Call place) m = 2 ≤ m.stack
 HasRoom (Rcall k) m = 2 ≤ m.stack
-HasRoom Ret m = m.stack < 0x45e
+HasRoom Ret m = m.stack + 2 < SRAM_END
 HasRoom _ m = Unit {0}

@@ -6,7 +6,9 @@ pub mod State
 pub mod Arithmetic
 pub mod Control
 pub mod Transfer
+pub mod Access
 pub mod Memory
 pub mod Reset
 -- what only the code needs
 pub mod Groups
+pub mod Asks

@@ -5,11 +5,10 @@ use Rattle.chip_tables.specs.declared.outside.Poll.TheVariants.{NoPoll}
 use Rattle.avr_devices.specs.declared.devices.Answer.{Answer}
 use Rattle.avr_mach.specs.declared.state.AvrState.{AvrState}
 use Rattle.avr_devices.specs.declared.io_space.IoRegister.{IoRegister}
-use Rattle.avr_devices.specs.declared.io_space.IoRegister.TheVariants.{Adcsra, Udr, Eecr, Tifr, Spl, Sph, Sreg}
-use Rattle.chip_tables.specs.Bits.{bit_of}
-use Rattle.avr_devices.specs.Device.{eeprom_status}
+use Rattle.avr_devices.specs.declared.io_space.IoRegister.TheVariants.{Adcsra, Udr, Tifr, Spl, Sph, Sreg}
+use Rattle.chip_tables.specs.declared.mega16.TheConstants.{IO_FIRST, SRAM_FIRST, SRAM_END}
 use Rattle.avr_devices.specs.DeviceReads.{device_byte, byte_taken}
-use Rattle.avr_devices.specs.DeviceWrites.{device_written, sent_to, eeprom_written}
+use Rattle.avr_devices.specs.DeviceWrites.{device_written, sent_to}
 use Rattle.avr_devices.specs.DevicePolls.{answer, cycle_answer, cycle_asked, converter_answer, converter_asked}
 use Rattle.avr_devices.specs.IoSpace.{register_at}
 use Rattle.avr_mach.specs.State.{reg, with_reg, sreg, with_sreg}
@@ -24,7 +23,6 @@ abbrev pub io_byte : AvrState → IoRegister → ℕ
 io_byte m Spl = m.stack % 256
 io_byte m Sph = m.stack / 256
 io_byte m Sreg = sreg m
-io_byte m Eecr = eeprom_status m.devices m.unlock
 io_byte m r = device_byte m.devices r
 
 -- reading UDR takes its byte
@@ -60,50 +58,47 @@ abbrev pub lds_register : Env → AvrState → IoRegister → Read
 lds_register env m Tifr = timer_read env m
 lds_register env m r = plain_read m r
 
--- an I/O register takes a byte, by an instruction of so many cycles. EECR is judged by the state before it: bit 1
--- stores where the instruction ends while the EEPROM is unlocked, and bit 2 unlocks it for four cycles from its end.
+-- an I/O register takes a byte, by an instruction of so many cycles
 abbrev pub io_written : AvrState → IoRegister → ℕ → ℕ → AvrState
 io_written m Spl x cycles = record m { stack = m.stack / 256 * 256 + x }
 io_written m Sph x cycles = record m { stack = x * 256 + m.stack % 256 }
 io_written m Sreg x cycles = with_sreg m x
-io_written m Eecr x cycles =
-    record m { devices = eeprom_written m.devices x (nat_le cycles m.unlock); unlock = if bit_of x 2 then 4 + cycles else 0 }
-io_written m r x cycles = record m { devices = device_written m.devices r x }
+io_written m r x cycles = record m { devices = device_written m.devices r x cycles }
 
--- the SRAM is at 60h..45Fh; an address past it reads 0
+-- an address that is none of the SRAM reads 0
 abbrev pub ram_byte : AvrState → ℕ → ℕ
 ram_byte m address =
-    if nat_le 0x60 address && nat_lt address 0x460 then slice_index m.sram (address - 0x60) else 0
+    if nat_le SRAM_FIRST address && nat_lt address SRAM_END then slice_index m.sram (address - SRAM_FIRST) else 0
 
 -- and takes no write
 abbrev pub with_ram : AvrState → ℕ → ℕ → AvrState
 with_ram m address x =
-    if nat_le 0x60 address && nat_lt address 0x460 then
-    record m { sram = slice_set m.sram (address - 0x60) x }
+    if nat_le SRAM_FIRST address && nat_lt address SRAM_END then
+    record m { sram = slice_set m.sram (address - SRAM_FIRST) x }
     else m
 
--- data memory: the registers from 0, the I/O space from 20h, the SRAM from 60h
+-- data memory: the registers from 0 on, the I/O space, the SRAM
 abbrev pub data_read : AvrState → ℕ → Read
 data_read m address =
-    if nat_lt address 0x20 then record { state = m; answer = answer (reg m address) NoPoll }
-    else if nat_lt address 0x60 then plain_read m (register_at (address - 0x20))
+    if nat_lt address IO_FIRST then record { state = m; answer = answer (reg m address) NoPoll }
+    else if nat_lt address SRAM_FIRST then plain_read m (register_at (address - IO_FIRST))
     else record { state = m; answer = answer (ram_byte m address) NoPoll }
 
 abbrev pub lds_read : Env → AvrState → ℕ → Read
 lds_read env m address =
-    if nat_lt address 0x20 then record { state = m; answer = answer (reg m address) NoPoll }
-    else if nat_lt address 0x60 then lds_register env m (register_at (address - 0x20))
+    if nat_lt address IO_FIRST then record { state = m; answer = answer (reg m address) NoPoll }
+    else if nat_lt address SRAM_FIRST then lds_register env m (register_at (address - IO_FIRST))
     else record { state = m; answer = answer (ram_byte m address) NoPoll }
 
 abbrev pub data_written : AvrState → ℕ → ℕ → ℕ → AvrState
 data_written m address x cycles =
-    if nat_lt address 0x20 then with_reg m address x
-    else if nat_lt address 0x60 then io_written m (register_at (address - 0x20)) x cycles
+    if nat_lt address IO_FIRST then with_reg m address x
+    else if nat_lt address SRAM_FIRST then io_written m (register_at (address - IO_FIRST)) x cycles
     else with_ram m address x
 
 -- the byte that a write to data memory sends
 abbrev pub sent_at : AvrState → ℕ → ℕ → Option ℕ
 sent_at m address x =
-    if nat_lt address 0x20 then None
-    else if nat_lt address 0x60 then sent_to m.devices (register_at (address - 0x20)) x
+    if nat_lt address IO_FIRST then None
+    else if nat_lt address SRAM_FIRST then sent_to m.devices (register_at (address - IO_FIRST)) x
     else None

@@ -19,6 +19,5 @@ reset_state sram regs eeprom settings =
       bit_copy = false;
       interrupts = false;
       stack = 0;
-      unlock = 0;
       devices = reset_devices eeprom settings;
     }

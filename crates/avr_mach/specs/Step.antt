@@ -1,10 +1,12 @@
 -- One step of the machine: a word of program flash is fetched and executed.
-use Rattle.std.specs.Prelude.{ℕ, ◌+◌, ◌-◌, nat_lt, if◌then◌else◌, List, Option, Some, None, slice_index_or}
+use Rattle.std.specs.Prelude.{ℕ, ◌+◌, nat_lt, if◌then◌else◌, List, Option, Some, None, slice_index_or}
 use Rattle.chip_tables.specs.declared.outside.Env.{Env}
 use Rattle.chip_tables.specs.declared.outside.StuckCause.{StuckCause}
 use Rattle.chip_tables.specs.declared.outside.StuckCause.TheVariants.{Undefined, PastFlash}
 use Rattle.chip_tables.specs.declared.outside.StepEnd.TheVariants.{Went, Stuck}
 use Rattle.chip_tables.specs.Step.{Step, Stepped}
+use Rattle.chip_tables.specs.declared.mega16.TheConstants.{FLASH_WORDS}
+use Rattle.avr_devices.specs.DeviceWrites.{cycles_passed}
 use Rattle.avr_mach.specs.declared.insn.AvrInsn.{AvrInsn}
 use Rattle.avr_mach.specs.declared.state.AvrState.{AvrState}
 use Rattle.avr_mach.specs.declared.state.Acted.{Acted}
@@ -17,7 +19,7 @@ use Rattle.avr_mach.specs.Words.{size_of}
 
 -- the word at a place: erased flash is all ones, where no word is given and past the flash
 abbrev pub word_at : List ℕ → ℕ → ℕ
-word_at flash place = if nat_lt place 8192 then slice_index_or flash place 0xffff else 0xffff
+word_at flash place = if nat_lt place FLASH_WORDS then slice_index_or flash place 0xffff else 0xffff
 
 abbrev pub insn_at : List ℕ → ℕ → Option AvrInsn
 insn_at flash place = avr_decode (word_at flash place) (word_at flash (place + 1))
@@ -27,9 +29,9 @@ abbrev pub width_of : Option AvrInsn → ℕ
 width_of None = 1
 width_of (Some i) = size_of i
 
--- the machine comes to a place; cycles pass, also for the unlocked EEPROM
+-- the machine comes to a place, and cycles pass for the devices too
 abbrev pub at_place : AvrState → ℕ → ℕ → AvrState
-at_place m place cycles = record m { place = place; unlock = m.unlock - cycles }
+at_place m place cycles = record m { place = place; devices = cycles_passed m.devices cycles }
 
 abbrev pub went : AvrState → ℕ → ℕ → Acted → Stepped AvrState
 went m place cycles acted =
@@ -59,4 +61,4 @@ step_by flash env m (Some i) = unless_stuck flash env m i (obstacle i m)
 
 abbrev pub avr_step : Step AvrState
 avr_step flash env m =
-    if nat_lt m.place 8192 then step_by flash env m (insn_at flash m.place) else stuck flash m PastFlash
+    if nat_lt m.place FLASH_WORDS then step_by flash env m (insn_at flash m.place) else stuck flash m PastFlash

@@ -5,6 +5,7 @@ ghost use Rattle.avr_mach.specs.Arithmetic.{exec, differ, with_sum, difference, 
 ghost use Rattle.avr_mach.specs.Control.{HasRoom};
 ghost use Rattle.avr_mach.specs.Insn.{FieldsFit};
 ghost use Rattle.avr_mach.specs.State.{act, reg};
+ghost use Rattle.chip_tables.specs.declared.mega16.TheConstants.{FLASH_WORDS};
 
 use crate::insn::AvrInsn;
 use crate::state::{Acted, AvrState, Flow};
@@ -15,7 +16,7 @@ impl AvrState {
     pub(crate) fn exec(&mut self, env: &Env, insn: AvrInsn, here: u32) -> Acted
         requires fits { FieldsFit insn }
         requires room { HasRoom insn self.old }
-        requires near { here < 8192 }
+        requires near { here < FLASH_WORDS }
         ensures state { self.new ≡ (exec env.now insn here self.old).state }
         ensures acted { result ≡ (exec env.now insn here self.old).acted }
         ensures cycles { result.cycles < 8 }

@@ -4,11 +4,13 @@ ghost use Rattle.std.specs.Prelude.{◌≡◌, ◌+◌, ◌<◌, ◌≤◌, ◌^
 ghost use Rattle.avr_mach.specs.Control.{control, near, branch, skip_if, with_call, return_place, call_obstacle, return_obstacle, obstacle, HasRoom};
 ghost use Rattle.avr_mach.specs.Insn.{FieldsFit};
 ghost use Rattle.avr_mach.specs.State.{act};
+ghost use Rattle.chip_tables.specs.declared.mega16.TheConstants.{FLASH_WORDS, SRAM_END};
 ghost use Rattle.avr_mach.specs.declared.state.AvrState.{AvrState};
 
 use crate::arithmetic::next;
 use crate::insn::AvrInsn;
 use crate::state::{Acted, AvrState, Flow};
+use chip_tables::mega16::{FLASH_WORDS, SRAM_END, SRAM_FIRST};
 use chip_tables::{Env, Poll, StuckCause, bit_of};
 
 impl AvrState {
@@ -17,7 +19,7 @@ impl AvrState {
         ensures value { result ≡ obstacle insn self.now }
         ensures room { IfNone result (HasRoom insn self.now) }
     {
-        let has_second_word = self.place < 8191;
+        let has_second_word = self.place < FLASH_WORDS - 1;
         match insn {
             AvrInsn::Jmp { place } => {
                 if has_second_word && place < 65536 {
@@ -50,7 +52,7 @@ impl AvrState {
         ensures value { result ≡ call_obstacle self.now }
         ensures room { IfNone result (2 ≤ self.now.stack) }
     {
-        if 0x61 <= self.stack && self.stack < 0x460 {
+        if SRAM_FIRST < self.stack && self.stack < SRAM_END {
             None
         } else {
             Some(StuckCause::StackDepth)
@@ -59,9 +61,9 @@ impl AvrState {
 
     fn return_obstacle(&self) -> Option<StuckCause>
         ensures value { result ≡ return_obstacle self.now }
-        ensures room { IfNone result (self.now.stack < 0x45e) }
+        ensures room { IfNone result (self.now.stack + 2 < SRAM_END) }
     {
-        if 0x5f <= self.stack && self.stack < 0x45e {
+        if SRAM_FIRST - 1 <= self.stack && self.stack < SRAM_END - 2 {
             None
         } else {
             Some(StuckCause::StackDepth)
@@ -73,7 +75,7 @@ impl AvrState {
     pub(crate) fn control(&mut self, env: &Env, insn: AvrInsn, here: u32) -> Acted
         requires fits { FieldsFit insn }
         requires room { HasRoom insn self.old }
-        requires near { here < 8192 }
+        requires near { here < FLASH_WORDS }
         ensures state { self.new ≡ (control env.now insn here self.old).state }
         ensures acted { result ≡ (control env.now insn here self.old).acted }
         ensures cycles { result.cycles < 8 }
@@ -121,7 +123,7 @@ impl AvrState {
     }
 
     fn return_place(&self) -> u32
-        requires { self.now.stack < 0x45e }
+        requires { self.now.stack + 2 < SRAM_END }
         ensures { result ≡ return_place self.now }
     {
         u32::from(self.ram_at(self.stack + 1)) * 256 + u32::from(self.ram_at(self.stack + 2))
@@ -140,20 +142,20 @@ fn jump(place: u32, cycles: u8) -> Acted
 }
 
 fn near(here: u32, k: u16, half: u16) -> u32
-    requires here { here < 8192 }
+    requires here { here < FLASH_WORDS }
     requires half { half < 4096 }
     ensures { result ≡ near here k half }
 {
     let from = here + 1 + u32::from(k);
     if k < half {
-        from % 8192
+        from % FLASH_WORDS
     } else {
-        (from + (8192 - 2 * u32::from(half))) % 8192
+        (from + (FLASH_WORDS - 2 * u32::from(half))) % FLASH_WORDS
     }
 }
 
 fn branch(taken: bool, here: u32, k: u8) -> Acted
-    requires { here < 8192 }
+    requires { here < FLASH_WORDS }
     ensures acted { (m : AvrState) → result ≡ (branch m taken here k).acted }
     ensures cycles { result.cycles < 8 }
 {

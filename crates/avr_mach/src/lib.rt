@@ -1,7 +1,9 @@
 //! An ATmega16 as far as this project's programs need it: its instructions, its state and its step.
 #![tactic(auto)]
 
+mod access;
 mod arithmetic;
+mod asks;
 mod control;
 mod insn;
 mod memory;

@@ -7,7 +7,8 @@ ghost use Rattle.avr_devices.specs.DeviceWrites.{sent_to};
 
 use crate::state::AvrState;
 use avr_devices::{Answer, IoRegister, register_at};
-use chip_tables::{Env, Poll, bit_of};
+use chip_tables::mega16::{IO_FIRST, SRAM_END, SRAM_FIRST};
+use chip_tables::{Env, Poll};
 
 impl AvrState {
     fn io_byte(&self, register: IoRegister) -> u8
@@ -17,7 +18,6 @@ impl AvrState {
             IoRegister::Spl => (self.stack % 256) as u8,
             IoRegister::Sph => (self.stack / 256) as u8,
             IoRegister::Sreg => self.sreg(),
-            IoRegister::Eecr => self.devices.eeprom_status(self.unlock),
             _ => self.devices.byte(register),
         }
     }
@@ -84,12 +84,7 @@ impl AvrState {
             IoRegister::Spl => self.stack = self.stack / 256 * 256 + u16::from(x),
             IoRegister::Sph => self.stack = u16::from(x) * 256 + self.stack % 256,
             IoRegister::Sreg => self.put_sreg(x),
-            IoRegister::Eecr => {
-                let unlocked = cycles <= self.unlock;
-                self.devices.write_eeprom(x, unlocked);
-                self.unlock = if bit_of(x, 2) { 4 + cycles } else { 0 };
-            }
-            _ => return self.devices.write(register, x),
+            _ => return self.devices.write(register, x, cycles),
         }
         None
     }
@@ -98,8 +93,8 @@ impl AvrState {
     pub(crate) fn write_ram(&mut self, address: u16, x: u8)
         ensures { self.new ≡ with_ram self.old address x }
     {
-        if 0x60 <= address && address < 0x460 {
-            self.sram[address as usize - 0x60] = x;
+        if SRAM_FIRST <= address && address < SRAM_END {
+            self.sram[usize::from(address - SRAM_FIRST)] = x;
         }
     }
 
@@ -108,10 +103,10 @@ impl AvrState {
         ensures state { self.new ≡ (data_read self.old address).state }
         ensures answer { result ≡ (data_read self.old address).answer }
     {
-        if address < 0x20 {
+        if address < IO_FIRST {
             said(self.regs[address as usize])
-        } else if address < 0x60 {
-            self.read_plain(register_at((address - 0x20) as u8))
+        } else if address < SRAM_FIRST {
+            self.read_plain(register_at((address - IO_FIRST) as u8))
         } else {
             said(self.ram_at(address))
         }
@@ -122,10 +117,10 @@ impl AvrState {
         ensures state { self.new ≡ (lds_read env.now self.old address).state }
         ensures answer { result ≡ (lds_read env.now self.old address).answer }
     {
-        if address < 0x20 {
+        if address < IO_FIRST {
             said(self.regs[address as usize])
-        } else if address < 0x60 {
-            self.read_register_lds(env, register_at((address - 0x20) as u8))
+        } else if address < SRAM_FIRST {
+            self.read_register_lds(env, register_at((address - IO_FIRST) as u8))
         } else {
             said(self.ram_at(address))
         }
@@ -137,11 +132,11 @@ impl AvrState {
         ensures state { self.new ≡ data_written self.old address x cycles }
         ensures sent { result ≡ sent_at self.old address x }
     {
-        if address < 0x20 {
+        if address < IO_FIRST {
             self.regs[address as usize] = x;
             None
-        } else if address < 0x60 {
-            self.write_io(register_at((address - 0x20) as u8), x, cycles)
+        } else if address < SRAM_FIRST {
+            self.write_io(register_at((address - IO_FIRST) as u8), x, cycles)
         } else {
             self.write_ram(address, x);
             None

@@ -7,6 +7,7 @@ ghost use Rattle.avr_mach.specs.Reset.{reset_state};
 ghost use Rattle.avr_mach.specs.State.{flag, with_flag, sreg, with_sreg, pointer, with_pointer};
 
 use avr_devices::AvrDevices;
+use chip_tables::mega16::{SRAM_END, SRAM_FIRST};
 use chip_tables::{Poll, Settings, as_bit, bit_of};
 
 /// The registers, the memories, the flags and the devices of an ATmega16 between two instructions.
@@ -35,8 +36,6 @@ pub struct AvrState {
     pub interrupts: bool,
     /// The stack pointer: the data address of the next byte that is pushed.
     pub stack: u16,
-    /// For how many cycles yet EECR takes the start of an EEPROM write.
-    pub unlock: u8,
     pub devices: AvrDevices,
 }
 
@@ -86,7 +85,6 @@ impl AvrState {
             bit_copy: false,
             interrupts: false,
             stack: 0,
-            unlock: 0,
             devices: AvrDevices::reset(eeprom, settings),
         }
     }
@@ -95,8 +93,8 @@ impl AvrState {
     pub fn ram_at(&self, address: u16) -> u8
         ensures { result ≡ ram_byte self.now address }
     {
-        if 0x60 <= address && address < 0x460 {
-            self.sram[address as usize - 0x60]
+        if SRAM_FIRST <= address && address < SRAM_END {
+            self.sram[usize::from(address - SRAM_FIRST)]
         } else {
             0
         }

@@ -7,6 +7,7 @@ ghost use Rattle.avr_mach.specs.Step.{avr_step, word_at, insn_at, width_of, sett
 
 use crate::insn::{AvrInsn, decode, size_of};
 use crate::state::{Acted, AvrState, Flow};
+use chip_tables::mega16::FLASH_WORDS;
 use chip_tables::{Env, StepEnd, StuckAt, StuckCause, Went};
 
 impl AvrState {
@@ -21,7 +22,7 @@ impl AvrState {
         ensures unchanged { OnStuck result (self.new ≡ self.old) }
     {
         let here = self.place;
-        if here >= 8192 {
+        if here >= FLASH_WORDS {
             return self.stuck(flash, StuckCause::PastFlash);
         }
         match insn_at(flash, here) {
@@ -48,7 +49,7 @@ impl AvrState {
 
     /// Comes to the place after an instruction; `next` is that of the one that follows it.
     fn settle(&mut self, flash: &[u16], next: u32, acted: Acted) -> Went
-        requires next { next < 8195 }
+        requires next { next < FLASH_WORDS + 3 }
         requires cycles { acted.cycles < 8 }
         ensures state { self.new ≡ (settled flash.now next self.old acted.flow acted).state }
         ensures end { StepEnd.Went result ≡ (settled flash.now next self.old acted.flow acted).end }
@@ -68,7 +69,7 @@ impl AvrState {
         ensures end { StepEnd.Went result ≡ (went self.old place cycles acted).end }
     {
         self.place = place;
-        self.unlock = self.unlock.saturating_sub(cycles);
+        self.devices.pass(cycles);
         Went {
             cycles,
             poll: acted.poll,
@@ -80,7 +81,7 @@ impl AvrState {
 fn word_at(flash: &[u16], place: u32) -> u16
     ensures { result ≡ word_at flash.now place }
 {
-    if place >= 8192 {
+    if place >= FLASH_WORDS {
         return 0xffff;
     }
     match flash.get(place as usize) {
@@ -89,7 +90,7 @@ fn word_at(flash: &[u16], place: u32) -> u16
     }
 }
 
-fn insn_at(flash: &[u16], place: u32) -> Option<AvrInsn>
+pub(crate) fn insn_at(flash: &[u16], place: u32) -> Option<AvrInsn>
     requires { place < 10000 }
     ensures value { result ≡ insn_at flash.now place }
     ensures fits { IfSome result FieldsFit }

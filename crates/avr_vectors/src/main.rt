@@ -1,5 +1,5 @@
 //! Reads vectors of one instruction each from the standard input, steps the written ATmega16 through
-//! them, and prints how many agree and which do not. A vector is a line
+//! them, and prints how many agree and which do not. It ends with 0 where there is a vector and all agree. A vector is a line
 //!
 //!     NAME place w0 w1 w2 sreg sp seed regs io | place cycles sreg sp regs changed io
 //!
@@ -43,7 +43,7 @@ fn count(rt: &(impl Input + Print + AllocGlobal)) -> io::Result<Counts> {
 fn run(rt: &(impl Input + Print + AllocGlobal)) -> io::Result<bool> {
     let Counts { all, agreeing } = count(rt)?;
     println!(rt; "{agreeing} of {all} vectors agree")?;
-    Ok(agreeing == all)
+    Ok(0 < all && agreeing == all)
 }
 
 fn main(rt: HostRuntime) -> ExitCode {

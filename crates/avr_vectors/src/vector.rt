@@ -147,7 +147,7 @@ fn put_registers(machine: &mut AvrState, list: &str) -> Option<()> {
         let (address, value) = pair.split_once('=')?;
         let _sent = machine
             .devices
-            .write(register_at(byte(address)?), byte(value)?);
+            .write(register_at(byte(address)?), byte(value)?, 1);
     }
     Some(())
 }

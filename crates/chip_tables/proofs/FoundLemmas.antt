@@ -6,7 +6,8 @@ use Rattle.std.proofs.lemmas.List.Folds.{find_at}
 use Rattle.std.proofs.lemmas.Option.{slice_get_past, slice_get-get_or}
 use Rattle.std.proofs.lemmas.Bool.Decides.{nat_tests}
 
-some_by : {X : Type 0} (xs : List X) (n k : ℕ) (d : X) (b : Bool) → nat_lt n (length xs) ≡ b → cond b (Some n) None ≡ Some k → slice_get xs n ≡ Some (get_or xs k d)
+some_by : {X : Type 0} (xs : List X) (n k : ℕ) (d : X) (b : Bool) → nat_lt n (length xs) ≡ b → cond b (Some n) None ≡ Some k →
+    slice_get xs n ≡ Some (get_or xs k d)
 some_by xs n k d true e h =
     let within : n < length xs = grind (arith, nat_tests, e) in
     let same : n ≡ k = cc in

@@ -12,7 +12,9 @@ use Rattle.chip_tables.specs.declared.pins.PortBit.{PortBit}
 use Rattle.chip_tables.specs.Pins.{io_pins, is_at, port_bit_of, port_bit_at, port_count, analog_pins, channel_at}
 
 -- an element that is found passes each test that all elements pass
-found_by : {X : Type 0} (p good : X → Bool) (x y : X) (ys : List X) (b : Bool) → p y ≡ b → (find p ys ≡ Some x → list_all good ys ≡ true → (p x ≡ true) × (good x ≡ true)) → cond b (Some y) (find p ys) ≡ Some x → (good y && list_all good ys) ≡ true → (p x ≡ true) × (good x ≡ true)
+found_by : {X : Type 0} (p good : X → Bool) (x y : X) (ys : List X) (b : Bool) → p y ≡ b →
+    (find p ys ≡ Some x → list_all good ys ≡ true → (p x ≡ true) × (good x ≡ true)) → cond b (Some y) (find p ys) ≡ Some x →
+    (good y && list_all good ys) ≡ true → (p x ≡ true) × (good x ≡ true)
 found_by p good x y ys true e later h t =
     let same : y ≡ x = cc in
     (ap p (sym same) ∙ e, ap good (sym same) ∙ (and_parts _ _ t).0)
@@ -66,7 +68,8 @@ of_row target pin r h =
       first = is_pin-some r.pin carrier tests.1 ∙ ap (λ n. Some n) (eqb-true r.pin pin passed.0);
     }
 
-carried_by : (target : Target) (pin : ℕ) (b : PortBit) (o : Option PinRow) → find (is_at pin) (io_pins target) ≡ o → option_map port_bit_of o ≡ Some b → Carries target pin b
+carried_by : (target : Target) (pin : ℕ) (b : PortBit) (o : Option PinRow) → find (is_at pin) (io_pins target) ≡ o → option_map port_bit_of o ≡ Some b →
+    Carries target pin b
 carried_by target pin b None e h =
     let clash : ⊥ = cc in absurd clash
 carried_by target pin b (Some r) e h =
@@ -81,7 +84,8 @@ in_ports target pin None e = tt
 in_ports target pin (Some b) e =
     let c = carried target pin b (sym e) in (c.port, c.bit)
 
-pub alone : (target : Target) (pin : ℕ) (o : Option PortBit) → o ≡ port_bit_at target pin → IfSome o (λ b. (other : ℕ) → port_bit_at target other ≡ Some b → other ≡ pin)
+pub alone : (target : Target) (pin : ℕ) (o : Option PortBit) → o ≡ port_bit_at target pin →
+    IfSome o (λ b. (other : ℕ) → port_bit_at target other ≡ Some b → other ≡ pin)
 alone target pin None e = tt
 alone target pin (Some b) e = λ other h.
     let here = (carried target pin b (sym e)).first in
@@ -89,7 +93,8 @@ alone target pin (Some b) e = λ other h.
     cc
 
 -- what stands at the place that is found passes
-at_place_by : (xs : List ℕ) (p : ℕ → Bool) (k n : ℕ) (b : Bool) → nat_lt n (length xs) ≡ b → (n < length xs → p (get_or xs n 0) ≡ true) → cond b (Some n) None ≡ Some k → (k < length xs) × (p (get_or xs k 0) ≡ true)
+at_place_by : (xs : List ℕ) (p : ℕ → Bool) (k n : ℕ) (b : Bool) → nat_lt n (length xs) ≡ b → (n < length xs → p (get_or xs n 0) ≡ true) →
+    cond b (Some n) None ≡ Some k → (k < length xs) × (p (get_or xs k 0) ≡ true)
 at_place_by xs p k n true e passes h =
     let within : n < length xs = grind (arith, nat_tests, e) in
     let same : n ≡ k = cc in
@@ -112,7 +117,8 @@ in_channels target pin None e = tt
 in_channels target pin (Some k) e =
     few_channels target k (at_place (analog_pins target) (λ input. input == pin) k (sym e)).0
 
-pub alone_channel : (target : Target) (pin : ℕ) (o : Option ℕ) → o ≡ channel_at target pin → IfSome o (λ channel. (other : ℕ) → channel_at target other ≡ Some channel → other ≡ pin)
+pub alone_channel : (target : Target) (pin : ℕ) (o : Option ℕ) → o ≡ channel_at target pin →
+    IfSome o (λ channel. (other : ℕ) → channel_at target other ≡ Some channel → other ≡ pin)
 alone_channel target pin None e = tt
 alone_channel target pin (Some k) e = λ other h.
     let here = eqb-true _ pin (at_place (analog_pins target) (λ input. input == pin) k (sym e)).1 in

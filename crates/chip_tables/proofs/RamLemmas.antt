@@ -40,7 +40,8 @@ here r rs floor i a lt low e =
       inside = ap (λ b. b || list_any (holds a) rs) test;
     }
 
-further : (r : Range) (rs : List Range) (floor i a : ℕ) → size r ≤ i → floor ≤ r.first → r.first ≤ r.last → Stands rs (r.last + 1) (i - size r) a → Stands (r ∷ rs) floor i a
+further : (r : Range) (rs : List Range) (floor i a : ℕ) → size r ≤ i → floor ≤ r.first → r.first ≤ r.last → Stands rs (r.last + 1) (i - size r) a →
+    Stands (r ∷ rs) floor i a
 further r rs floor i a le low order s =
     let above = s.above in
     let test : holds a r ≡ false = above_range a r above in
@@ -62,7 +63,9 @@ parts r rs floor t =
 not_below : (i n : ℕ) → nat_lt i n ≡ false → n ≤ i
 not_below i n e = grind (arith, nat_tests, e)
 
-stands_by : (r : Range) (rs : List Range) (floor i a : ℕ) (b : Bool) → nat_lt i (size r) ≡ b → (ascends (r.last + 1) rs ≡ true → byte_at rs (i - size r) ≡ Some a → Stands rs (r.last + 1) (i - size r) a) → ascends floor (r ∷ rs) ≡ true → cond b (Some (r.first + i)) (byte_at rs (i - size r)) ≡ Some a → Stands (r ∷ rs) floor i a
+stands_by : (r : Range) (rs : List Range) (floor i a : ℕ) (b : Bool) → nat_lt i (size r) ≡ b →
+    (ascends (r.last + 1) rs ≡ true → byte_at rs (i - size r) ≡ Some a → Stands rs (r.last + 1) (i - size r) a) → ascends floor (r ∷ rs) ≡ true →
+    cond b (Some (r.first + i)) (byte_at rs (i - size r)) ≡ Some a → Stands (r ∷ rs) floor i a
 stands_by r rs floor i a true e later t h =
     let bounds = parts r rs floor t in
     let same : r.first + i ≡ a = cc in

@@ -2,6 +2,8 @@
 pub mod Pins
 pub mod Memory
 pub mod Settings
+pub mod Scratch
 pub mod Cost
+pub mod Outside
 pub mod Step
 pub mod Bits

@@ -5,9 +5,11 @@
 mod bits;
 mod cost_kind;
 mod cost_table;
+pub mod mega16;
 mod memory;
 mod outside;
 mod pins;
+mod scratch;
 mod settings;
 mod target;
 
@@ -17,6 +19,7 @@ pub use cost_table::cost;
 pub use memory::{eeprom_have, flash_words, ram_byte, ram_have};
 pub use outside::{Env, PinReading, Poll, StepEnd, StuckAt, StuckCause, Went};
 pub use pins::{PinRow, PortBit, adc_channel, pin_of, pwm_pin, row_of_pin, rx_pin, tx_pin};
+pub use scratch::{CellBit, Scratch, WIRES, scratch_cells, wire};
 pub use settings::{
     BaudSetting, PwmSetting, Settings, TimerSetting, baud_setting, pwm_setting, timer_setting,
 };

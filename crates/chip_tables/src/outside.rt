@@ -1,5 +1,8 @@
 //! What a chip's written machine meets at a step, and how a step ends.
 
+ghost use Rattle.std.specs.Prelude.{◌≡◌};
+ghost use Rattle.chip_tables.specs.Outside.{no_reading};
+
 /// What the pins and the devices of a chip show in one cycle.
 #[derive(Clone, Copy, Debug, PartialEq, Eq)]
 pub struct PinReading {
@@ -13,6 +16,21 @@ pub struct PinReading {
     pub tx_busy: bool,
     /// Whether the EEPROM is still writing an earlier byte.
     pub ee_busy: bool,
+}
+
+impl PinReading {
+    /// The reading that shows nothing: all levels and values are 0, no byte is there, and nothing is busy.
+    pub fn nothing() -> PinReading
+        ensures { result ≡ no_reading }
+    {
+        PinReading {
+            levels: [0, 0, 0, 0, 0],
+            adc: [0, 0, 0, 0, 0, 0, 0, 0],
+            rx: None,
+            tx_busy: false,
+            ee_busy: false,
+        }
+    }
 }
 
 /// What a chip meets at one instruction.

@@ -78,7 +78,8 @@ tests_all (row ∷ rows) t zero (suc j) d lt within =
     tests_apart row (get_or rows j d) (one_of_all (are_apart row) rows j d (and_parts _ _ t).0 (omega arith))
 tests_all (row ∷ rows) t (suc i) (suc j) d lt within = tests_all rows (and_parts _ _ t).1 i j d (omega arith) (omega arith)
 
-first_of_all : (row : InsnRow) (rows : List InsnRow) → ((j : ℕ) → (d : InsnRow) → j < length rows → Apart row (get_or rows j d)) → list_all (are_apart row) rows ≡ true
+first_of_all : (row : InsnRow) (rows : List InsnRow) → ((j : ℕ) → (d : InsnRow) → j < length rows → Apart row (get_or rows j d)) →
+    list_all (are_apart row) rows ≡ true
 first_of_all row [] h = refl
 first_of_all row (next ∷ rows) h =
     both_true (apart_tests row next (h zero row (omega arith))) (first_of_all row rows (λ j d lt. h (suc j) d (omega arith)))

@@ -4,6 +4,7 @@ use Rattle.std.specs.Option.{option_map, option_to_list}
 use Rattle.ladder_meaning.specs.State as ladder
 use Rattle.ladder_meaning.specs.declared.reading.Reading.{Reading}
 use Rattle.int_code.specs.declared.limits.TheConstants.{MOST_PERSISTENT}
+use Rattle.int_code.specs.declared.range.Counts.{Counts}
 use Rattle.int_code.specs.declared.state.Devices as held
 use Rattle.int_code.specs.declared.state.Pending as waiting
 use Rattle.int_code.specs.declared.state.State.{State}
@@ -60,3 +61,6 @@ pub record SameSizes (old new : State) : Type 0 where
   pub bits : length new.bits.items ≡ length old.bits.items
   pub outputs : length new.outputs.items ≡ length old.outputs.items
   pub numbers : length new.numbers.items ≡ length old.numbers.items
+
+abbrev pub counted : Counts → Sizes
+counted n = record { bits = n.bits; outputs = n.outputs; inputs = n.inputs; analogs = n.analogs; variables = n.variables; persistent = n.persistent }

@@ -8,6 +8,7 @@ pub mod laws;
 pub mod limits;
 pub mod op;
 mod operand;
+pub mod range;
 pub mod state;
 pub mod text;
 pub mod well_formed;

@@ -30,7 +30,7 @@ pub enum NumSource {
 
 /// An operation. `v` and `from` are variables, `a` is a persistent variable and `k` an analog input, each by its number;
 /// `hz` is hertz.
-#[derive(Debug, Drop)]
+#[derive(Drop)]
 pub enum IntOp {
     /// The bit becomes true.
     Set {
@@ -205,7 +205,7 @@ pub type Ops = List<IntOp>;
 
 /// A program: its operations, how many there are of what they are numbered by, and the start value of each variable.
 /// The first `kept_bits` bits keep their meaning from cycle to cycle: relays, then memories, then start flags. The rest are wires.
-#[derive(Debug, Drop)]
+#[derive(Drop)]
 pub struct IntProgram {
     pub ops: Ops,
     pub inputs: u32,

@@ -37,7 +37,7 @@ pub struct Devices {
 }
 
 /// A level for each bit and each output, and a number for each variable, by their numbers; and the devices.
-#[derive(Debug, Drop)]
+#[derive(Drop)]
 pub struct State {
     pub bits: Vec<bool>,
     pub outputs: Vec<bool>,

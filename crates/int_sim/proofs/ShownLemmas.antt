@@ -10,7 +10,9 @@ use Rattle.int_code.specs.Held.{store_of}
 use Rattle.int_code.specs.declared.op.IntProgram.{IntProgram}
 use Rattle.int_sim.specs.Machine.{IsWhole, HasPlaces, view_by}
 use Rattle.ladder_tree.specs.declared.names.Names.{Names}
-use Rattle.ladder_meaning.specs.View.{firsts, sent_of, duty_of, bytes_of}
+use Rattle.ladder_meaning.specs.View.{firsts, sent_of, bytes_of}
+use Rattle.ladder_trace.specs.Duty.{duty_as}
+use Rattle.ladder_trace.specs.declared.duty.DutyShown.{DutyShown}
 
 -- the first items of a list are those that its numbers have
 pub first_items : {A : Type 0} (d : A) (n : ℕ) (xs : List A) → n ≤ length xs → take n xs ≡ firsts n (λ k. slice_index_or xs k d)
@@ -29,12 +31,12 @@ was_sent None = refl
 was_sent (Some byte) = refl
 
 -- the lists of a state, and what its devices show, are what the program shows
-pub shown : (shows_duty : Bool) (n : Names) (p : IntProgram) (s : State) (os rs : List Bool) (vs : List ℤ) (pwm : Option ℕ) (eeprom : Option (List ℕ))
+pub shown : (duty : DutyShown) (n : Names) (p : IntProgram) (s : State) (os rs : List Bool) (vs : List ℤ) (pwm : Option ℕ) (eeprom : Option (List ℕ))
     → IsWhole (record { program = p; state = s }) → HasPlaces n p
-    → os ≡ s.outputs.items → rs ≡ take (length n.relays) s.bits.items → vs ≡ s.numbers.items → pwm ≡ duty_of shows_duty (pos s.devices.duty)
+    → os ≡ s.outputs.items → rs ≡ take (length n.relays) s.bits.items → vs ≡ s.numbers.items → pwm ≡ duty_as duty s.devices.duty
     → eeprom ≡ bytes_of p.persistent (λ k. slice_index_or s.devices.eeprom k 0)
-    → record { outputs = os; relays = rs; variables = vs; pwm = pwm; sent = s.devices.sent; eeprom = eeprom } ≡ view_by shows_duty n p (store_of s)
-shown shows_duty n p s os rs vs pwm eeprom w places o r v d e =
+    → record { outputs = os; relays = rs; variables = vs; pwm = pwm; sent = s.devices.sent; eeprom = eeprom } ≡ view_by duty n p (store_of s)
+shown duty n p s os rs vs pwm eeprom w places o r v d e =
     let outputs = all_items false p.outputs s.outputs.items w.outputs in
     let relays = first_items false (length n.relays) s.bits.items (omega (arith, w.bits, places.relays)) in
     let variables = all_items (pos 0) p.variables s.numbers.items w.numbers in

@@ -1,8 +1,10 @@
 -- A program that runs, and what it shows of a project's names.
-use Rattle.std.specs.Prelude.{◌≡◌, ◌<◌, ◌≤◌, ◌^◌, length, Bool}
+use Rattle.std.specs.Prelude.{◌≡◌, ◌<◌, ◌≤◌, ◌^◌, length, None, unsigned_abs}
 use Rattle.ladder_tree.specs.declared.names.Names.{Names}
 use Rattle.ladder_meaning.specs.declared.reading.View.{View}
-use Rattle.ladder_meaning.specs.View.{firsts, duty_of, sent_of, bytes_of}
+use Rattle.ladder_meaning.specs.View.{firsts, sent_of, bytes_of}
+use Rattle.ladder_trace.specs.Duty.{duty_as, shown_where}
+use Rattle.ladder_trace.specs.declared.duty.DutyShown.{DutyShown}
 use Rattle.int_code.specs.Held.{store_of}
 use Rattle.int_code.specs.Store.{Store}
 use Rattle.int_code.specs.Uses.{has_pwm}
@@ -39,17 +41,17 @@ pub record HasPlaces (n : Names) (p : IntProgram) : Type 0 where
   pub variables : length n.variables ≡ p.variables
   pub relays : length n.relays ≤ p.bits
 
--- What a program shows of the names, and of the devices: the duty only where it is told to.
-abbrev pub view_by : Bool → Names → IntProgram → Store → View
-view_by shows_duty n p t = record {
+-- What a program shows of the names, and of the devices: the duty as it is told to.
+abbrev pub view_by : DutyShown → Names → IntProgram → Store → View
+view_by duty n p t = record {
   outputs = firsts p.outputs t.output;
   relays = firsts (length n.relays) t.bit;
   variables = firsts p.variables t.number;
-  pwm = duty_of shows_duty t.devices.duty;
+  pwm = duty_as duty (unsigned_abs t.devices.duty);
   sent = sent_of t.devices.sent;
   eeprom = bytes_of p.persistent t.devices.eeprom;
 }
 
--- the duty is shown where an operation sets it
+-- the duty is shown as it is, where an operation sets it
 abbrev pub view_of : Names → IntProgram → Store → View
-view_of n p t = view_by (has_pwm p.ops) n p t
+view_of n p t = view_by (shown_where (has_pwm p.ops) None) n p t

@@ -5,13 +5,14 @@ ghost use Rattle.int_code.specs.Meaning as meaning;
 ghost use Rattle.int_code.specs.Store.{start};
 ghost use Rattle.int_code.specs.Uses.{is_pwm, has_pwm};
 ghost use Rattle.int_code.specs.declared.limits.TheConstants.{MOST_PERSISTENT};
-ghost use Rattle.ladder_meaning.specs.View.{bytes_of, duty_of, sent_of};
+ghost use Rattle.ladder_meaning.specs.View.{bytes_of, sent_of};
 ghost use Rattle.int_sim.specs.Machine.{state_of, IsRunnable, HasPlaces, view_of, view_by};
 
 use int_code::cycle::cycle;
 use int_code::op::{IntOp, IntProgram};
 use int_code::state::State;
 use ladder_meaning::reading::{Reading, View};
+use ladder_trace::duty::DutyShown;
 use ladder_tree::element::Bytes;
 use ladder_tree::names::Names;
 use ld_base::list::List;
@@ -19,7 +20,7 @@ use std::alloc::{AllocError, Global};
 use std::marker::Model;
 
 /// A program and its state between cycles.
-#[derive(Debug, Drop)]
+#[derive(Drop)]
 pub struct Sim {
     program: IntProgram,
     /// A level for each bit and each output, a number for each variable, and the devices.
@@ -104,13 +105,13 @@ impl Sim {
         requires { HasPlaces n.now self.now.program }
         ensures { IfOk result (λ v. v ≡ view_of n.now self.now.program (state_of self.now)) }
     {
-        self.view_by(alloc, n, self.sets_duty)
+        self.view_by(alloc, n, DutyShown::shown_where(self.sets_duty, None))
     }
 
-    /// The same, with the duty where it is asked for.
-    pub fn view_by(&self, alloc: Global, n: &Names, shows_duty: bool) -> Result<View, AllocError>
+    /// The same, with the duty as it is asked for.
+    pub fn view_by(&self, alloc: Global, n: &Names, duty: DutyShown) -> Result<View, AllocError>
         requires { HasPlaces n.now self.now.program }
-        ensures { IfOk result (λ v. v ≡ view_by shows_duty n.now self.now.program (state_of self.now)) }
+        ensures { IfOk result (λ v. v ≡ view_by duty n.now self.now.program (state_of self.now)) }
     {
         let outputs = self.state.outputs.to_vec(alloc)?;
         let relays = self.state.bits[..n.relays.len()].to_vec(alloc)?;
@@ -120,21 +121,10 @@ impl Sim {
             outputs: List::from_vec(outputs),
             relays: List::from_vec(relays),
             variables: List::from_vec(variables),
-            pwm: self.duty(shows_duty),
+            pwm: duty.shown(self.state.devices.duty),
             sent: self.state.devices.sent,
             eeprom,
         })
-    }
-
-    /// The duty, where it is shown.
-    fn duty(&self, is_shown: bool) -> Option<u8>
-        ensures { result ≡ duty_of is_shown (state_of self.now).devices.duty }
-    {
-        if is_shown {
-            Some(self.state.devices.duty)
-        } else {
-            None
-        }
     }
 }
 

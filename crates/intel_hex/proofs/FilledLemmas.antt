@@ -125,7 +125,8 @@ word_bytes-append [] ys = refl
 word_bytes-append (x ∷ xs) ys = ap (λ l. x % 256 ∷ x / 256 ∷ l) (word_bytes-append xs ys)
 
 -- one record, which has no fault
-pub one_read : (t : Target) (before : List Said) (kind address : ℕ) (bytes rest : List ℕ) (said : Said) → kind < 256 → address < 65536 → length bytes < 256 → IsBytes bytes
+pub one_read : (t : Target) (before : List Said) (kind address : ℕ) (bytes rest : List ℕ) (said : Said) → kind < 256 → address < 65536 → length bytes < 256 →
+    IsBytes bytes
     → kind_said kind address bytes ≡ Some said → fault_of t before said ≡ None
     → verdict t before (sayings false (lines (line_of kind address bytes ++ rest))) ≡ verdict t (said ∷ before) (sayings false (lines rest))
 one_read t before kind address bytes rest said k a few fits is passes =

@@ -134,7 +134,8 @@ byte_small first bytes a b fits is = by (nat_le first a) is
 more_small : (said : Said) (before : List Said) → SaidFits said → AreSmall (given before) → AreSmall (given (said ∷ before))
 unfolding AreSmall SaidFits
 more_small Nothing before fits small = small
-more_small (Data low bytes) before fits small = λ a b is. or_small (byte_of (start before low) bytes a) (given before a) b (byte_small (start before low) bytes a b fits) (small a b) is
+more_small (Data low bytes) before fits small =
+    λ a b is. or_small (byte_of (start before low) bytes a) (given before a) b (byte_small (start before low) bytes a b fits) (small a b) is
 more_small End before fits small = small
 more_small (Upper bits) before fits small = small
 more_small (Broken cause) before fits small = small

@@ -17,7 +17,8 @@ use Rattle.intel_hex.specs.Said.{half, kind_said, unsummed, summed, said_by, dec
 
 -- a digit is no such byte
 digit_other : (d c : ℕ) → d < 16 → hex_digit_value c ≡ None → slice_index upper_digits d ≢ c
-digit_other d c h none e = let digit = IsDigits-upper_digits d h in let same : hex_digit_value (slice_index upper_digits d) ≡ hex_digit_value c = ap hex_digit_value e in absurd cc
+digit_other d c h none e =
+    let digit = IsDigits-upper_digits d h in let same : hex_digit_value (slice_index upper_digits d) ≡ hex_digit_value c = ap hex_digit_value e in absurd cc
 
 -- nor is one of an encoding
 encoding_other : (c : ℕ) (xs : List ℕ) → hex_digit_value c ≡ None → IsBytes xs → All (λ x. x ≢ c) (encode_upper xs)
@@ -30,7 +31,8 @@ encoding_other c (b ∷ rest) none fits =
     (encoding_other c rest none (λ k. fits (suc k))))
 
 -- the last byte of an encoding is a digit
-encoding_last : (c : ℕ) (xs : List ℕ) → encode_upper (xs ++ c ∷ []) ≡ (encode_upper xs ++ slice_index upper_digits (c / 16) ∷ []) ++ slice_index upper_digits (c % 16) ∷ []
+encoding_last : (c : ℕ) (xs : List ℕ) →
+    encode_upper (xs ++ c ∷ []) ≡ (encode_upper xs ++ slice_index upper_digits (c / 16) ∷ []) ++ slice_index upper_digits (c % 16) ∷ []
 unfolding encode_with
 encoding_last c [] = refl
 encoding_last c (b ∷ rest) = ap (λ l. slice_index upper_digits (b / 16) ∷ slice_index upper_digits (b % 16) ∷ l) (encoding_last c rest)
@@ -101,7 +103,8 @@ line_said kind address bytes said k a few fits is =
     let front = bytes_of kind address bytes in
     let c = closing front in
     let last = slice_index upper_digits (c % 16) in
-    let snoc : record_line kind address bytes ≡ (58 ∷ encode_upper front ++ slice_index upper_digits (c / 16) ∷ []) ++ last ∷ [] = ap (λ l. 58 ∷ l) (encoding_last c front) in
+    let snoc : record_line kind address bytes ≡ (58 ∷ encode_upper front ++ slice_index upper_digits (c / 16) ∷ []) ++ last ∷ [] =
+    ap (λ l. 58 ∷ l) (encoding_last c front) in
     let same : without_return (record_line kind address bytes) ≡ record_line kind address bytes =
     ap without_return snoc ∙ kept (58 ∷ encode_upper front ++ slice_index upper_digits (c / 16) ∷ []) last (digit_other (c % 16) 13 (omega arith) refl) ∙ sym snoc in
     ap marked same

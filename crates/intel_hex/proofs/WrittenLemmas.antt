@@ -146,7 +146,8 @@ in_config Mega16 a pic low high = absurd cc
 in_config Interp a pic low high = absurd cc
 in_config AnsiC a pic low high = absurd cc
 
-config_read : (t : Target) (pic : Bool) (config : Option ℕ) (before : List Said) (bytes : List ℕ) → is_pic t ≡ pic → IsConfig pic config → Filled before bytes → length bytes ≤ 16384
+config_read : (t : Target) (pic : Bool) (config : Option ℕ) (before : List Said) (bytes : List ℕ) → is_pic t ≡ pic → IsConfig pic config →
+    Filled before bytes → length bytes ≤ 16384
     → (later : List Said) × (is_ended later ≡ false) × ((a : ℕ) → given later a ≡ with_config config bytes a)
     × ((rest : List ℕ) → verdict t before (sayings false (lines (config_line pic config ++ rest))) ≡ verdict t later (sayings false (lines rest)))
 unfolding with_config
@@ -170,7 +171,8 @@ config_read t true (Some w) before bytes is fits f room =
           (fits_cons (w % 256) (w / 256 ∷ []) (omega arith) (fits_cons (w / 256) [] (omega arith) (λ k. omega arith))) refl passes,
     )
 
-end_read : (t : Target) (before : List Said) → is_ended before ≡ false → verdict t before (sayings false (lines (line_of 1 0 []))) ≡ Ok (image_of t (given before))
+end_read : (t : Target) (before : List Said) → is_ended before ≡ false →
+    verdict t before (sayings false (lines (line_of 1 0 []))) ≡ Ok (image_of t (given before))
 end_read t before unended =
     ap (λ l. verdict t before (sayings false (lines l))) (sym (append-nil (line_of 1 0 [])))
     ∙ one_read t before 1 0 [] [] End (omega arith) (omega arith) (omega arith) (λ k. omega arith) refl (rw unended refl)

@@ -18,9 +18,11 @@ use Rattle.interp_code.specs.declared.reader.Stage.{Stage}
 use Rattle.interp_code.specs.declared.reader.Stage.TheVariants as stage
 use Rattle.interp_code.specs.Line.{Line, Magic, Cycle, Input, Output, Analog, Variable, Relay, Persistent, BitCount, Code, Operation, End}
 use Rattle.interp_code.specs.Text.{variables}
-use Rattle.interp_code.specs.Program.{differ_from, all_differ, are_in, most_bits, most_persistent}
+use Rattle.int_code.specs.declared.limits.TheConstants.{MOST_BITS, MOST_PERSISTENT}
+use Rattle.interp_code.specs.Program.{differ_from, all_differ, are_in}
 use Rattle.interp_code.specs.Refused.{operations_of}
-use Rattle.interp_code.specs.Draft.{Draft, start, sizes, is_in_range, ifs_behind, is_none, with_name, step_kept, step_at}
+use Rattle.texts.specs.Keys.{with_key}
+use Rattle.interp_code.specs.Draft.{Draft, start, sizes, is_in_range, ifs_behind, is_none, step_kept, step_at}
 use Rattle.interp_code.proofs.BoolLemmas.{and_left, and_right}
 use Rattle.interp_code.proofs.SaidLines.{IsInForm}
 use Rattle.interp_code.proofs.RangeTests.{range_decides}
@@ -54,8 +56,8 @@ pub record GoodNames (ns : Names) (values : List ℤ) : Type 0 where
   pub analog_names : list_all (is_name_within 66) ns.analog ≡ true
   pub persistent_variables : are_in ns.variables ns.persistent ≡ true
   pub starts : length values ≡ length ns.variables
-  pub few_relays : length ns.relays ≤ most_bits
-  pub few_persistent : length ns.persistent ≤ most_persistent
+  pub few_relays : length ns.relays ≤ MOST_BITS
+  pub few_persistent : length ns.persistent ≤ MOST_PERSISTENT
 
 -- the operations so far
 pub record GoodOps (n : Sizes) (ops : List IntOp) (ifs : List Bool) : Type 0 where
@@ -77,7 +79,7 @@ pub record IsNew (d : Draft) : Type 0 where
 pub record IsSized (d : Draft) : Type 0 where
   pub analog_variables : are_in d.names.variables d.names.analog ≡ true
   pub enough : length d.names.relays ≤ d.bits
-  pub few : d.bits ≤ most_bits
+  pub few : d.bits ≤ MOST_BITS
 
 abbrev pub GoodAt : Stage → Draft → Type 0
 GoodAt stage.Start d = IsNew d
@@ -114,18 +116,21 @@ if_grows : (d : Draft) (l : Line) (b : Bool) (o : Option Draft) → (b ≡ true 
 if_grows d l true o h = h refl
 if_grows d l false o h = tt
 
-name_grows : (d : Draft) (l : Line) (n : List ℕ) (ns : List (List ℕ)) (f : List (List ℕ) → Draft) → (list_any (bytes_eq n) ns ≡ false → Grown d l (f (ns ++ n ∷ []))) → Grows d l (option_map f (with_name n ns))
+name_grows : (d : Draft) (l : Line) (n : List ℕ) (ns : List (List ℕ)) (f : List (List ℕ) → Draft)
+    → (list_any (bytes_eq n) ns ≡ false → Grown d l (f (ns ++ n ∷ []))) → Grows d l (option_map f (with_key n ns))
 name_grows d l n ns f h = by (list_any (bytes_eq n) ns) h
   where
     by : (b : Bool) → (b ≡ false → Grown d l (f (ns ++ n ∷ []))) → Grows d l (option_map f (if b then None else Some (ns ++ n ∷ [])))
     by true h = tt
     by false h = h refl
 
-ifs_grow : (d : Draft) (l : Line) (f : List Bool → Draft) (o : Option (List Bool)) → ((es : List Bool) → o ≡ Some es → Grown d l (f es)) → Grows d l (option_map f o)
+ifs_grow : (d : Draft) (l : Line) (f : List Bool → Draft) (o : Option (List Bool)) → ((es : List Bool) → o ≡ Some es → Grown d l (f es))
+    → Grows d l (option_map f o)
 ifs_grow d l f None h = tt
 ifs_grow d l f (Some es) h = h es refl
 
-differ_more : (seen ns : List (List ℕ)) (n : List ℕ) → differ_from seen ns ≡ true → list_any (bytes_eq n) (seen ++ ns) ≡ false → differ_from seen (ns ++ n ∷ []) ≡ true
+differ_more : (seen ns : List (List ℕ)) (n : List ℕ) → differ_from seen ns ≡ true → list_any (bytes_eq n) (seen ++ ns) ≡ false
+    → differ_from seen (ns ++ n ∷ []) ≡ true
 differ_more seen [] n h new = let plain : list_any (bytes_eq n) seen ≡ false = ap (list_any (bytes_eq n)) (sym (append-nil seen)) ∙ new in rw plain refl
 differ_more seen (m ∷ ns) n h new =
     let first = and_left (not (list_any (bytes_eq m) seen)) (differ_from (seen ++ m ∷ []) ns) h in
@@ -169,17 +174,21 @@ magic_grown d g = record { more = refl; count = omega arith; good = record { nam
     new : IsNew (record d { stage = stage.Headed })
     new = record { inputs = g.at.inputs; outputs = g.at.outputs; analogs = g.at.analogs; variables = g.at.variables; relays = g.at.relays; persistent = g.at.persistent; ops = g.at.ops; ifs = g.at.ifs }
 
-cycle_grown : (d : Draft) (n : ℕ) → Good (record d { stage = stage.Headed }) → Grown (record d { stage = stage.Headed }) (Cycle n) (record d { stage = stage.Named; cycle = n })
+cycle_grown : (d : Draft) (n : ℕ) → Good (record d { stage = stage.Headed })
+    → Grown (record d { stage = stage.Headed }) (Cycle n) (record d { stage = stage.Named; cycle = n })
 cycle_grown d n g = record {
   more = rw (g.at.inputs, g.at.outputs, g.at.analogs, no_variables d.names.variables d.starts g.at.variables, g.at.relays, g.at.persistent) refl;
   count = omega arith;
   good = record { names = g.names; operations = g.operations; at = (g.at.relays, g.at.persistent, g.at.ops, g.at.ifs) };
 }
 
-input_grown : (d : Draft) (n : List ℕ) → (is_none d.names.outputs && (is_none d.names.analog && is_none d.names.variables)) ≡ true → list_any (bytes_eq n) d.names.inputs ≡ false → Good (record d { stage = stage.Named })
+input_grown : (d : Draft) (n : List ℕ) → (is_none d.names.outputs && (is_none d.names.analog && is_none d.names.variables)) ≡ true
+    → list_any (bytes_eq n) d.names.inputs ≡ false → Good (record d { stage = stage.Named })
     → Grown (record d { stage = stage.Named }) (Input n) (record d { stage = stage.Named; names = record d.names { inputs = d.names.inputs ++ n ∷ [] } })
 input_grown d n none new g = record {
-  more = rw (no_outputs, no_analogs, no_variables d.names.variables d.starts no_vars, g.at.0, g.at.1) (headed d.cycle _ _ (Input n) (one_more Input d.names.inputs n));
+  more =
+      rw (no_outputs, no_analogs, no_variables d.names.variables d.starts no_vars, g.at.0, g.at.1)
+      (headed d.cycle _ _ (Input n) (one_more Input d.names.inputs n));
   count = omega arith;
   good = record {
     names = record {
@@ -209,10 +218,13 @@ input_grown d n none new g = record {
     no_vars : d.names.variables ≡ []
     no_vars = none_is d.names.variables (and_right (is_none d.names.analog) (is_none d.names.variables) (and_right (is_none d.names.outputs) _ none))
 
-output_grown : (d : Draft) (n : List ℕ) → (is_none d.names.analog && is_none d.names.variables) ≡ true → list_any (bytes_eq n) d.names.outputs ≡ false → Good (record d { stage = stage.Named })
+output_grown : (d : Draft) (n : List ℕ) → (is_none d.names.analog && is_none d.names.variables) ≡ true → list_any (bytes_eq n) d.names.outputs ≡ false
+    → Good (record d { stage = stage.Named })
     → Grown (record d { stage = stage.Named }) (Output n) (record d { stage = stage.Named; names = record d.names { outputs = d.names.outputs ++ n ∷ [] } })
 output_grown d n none new g = record {
-  more = rw (no_analogs, no_variables d.names.variables d.starts no_vars, g.at.0, g.at.1) (headed d.cycle _ _ (Output n) (behind (map Input d.names.inputs) _ _ (Output n) (one_more Output d.names.outputs n)));
+  more =
+      rw (no_analogs, no_variables d.names.variables d.starts no_vars, g.at.0, g.at.1)
+      (headed d.cycle _ _ (Output n) (behind (map Input d.names.inputs) _ _ (Output n) (one_more Output d.names.outputs n)));
   count = omega arith;
   good = record {
     names = record {
@@ -239,7 +251,8 @@ output_grown d n none new g = record {
     no_vars : d.names.variables ≡ []
     no_vars = none_is d.names.variables (and_right (is_none d.names.analog) (is_none d.names.variables) none)
 
-analog_grown : (d : Draft) (n : List ℕ) → is_none d.names.variables ≡ true → list_any (bytes_eq n) d.names.analog ≡ false → is_name_within 66 n ≡ true → Good (record d { stage = stage.Named })
+analog_grown : (d : Draft) (n : List ℕ) → is_none d.names.variables ≡ true → list_any (bytes_eq n) d.names.analog ≡ false → is_name_within 66 n ≡ true
+    → Good (record d { stage = stage.Named })
     → Grown (record d { stage = stage.Named }) (Analog n) (record d { stage = stage.Named; names = record d.names { analog = d.names.analog ++ n ∷ [] } })
 analog_grown d n none new named g = record {
   more = rw (no_variables d.names.variables d.starts (none_is d.names.variables none), g.at.0, g.at.1) (headed d.cycle _ _ (Analog n) (behind (map Input d.names.inputs) _ _ (Analog n) (behind (map Output d.names.outputs) _ _ (Analog n) (one_more Analog d.names.analog n))));
@@ -264,10 +277,12 @@ analog_grown d n none new named g = record {
 }
 
 variable_grown : (d : Draft) (n : List ℕ) (value : ℤ) → list_any (bytes_eq n) d.names.variables ≡ false → Good (record d { stage = stage.Named })
-    → Grown (record d { stage = stage.Named }) (Variable n value) (record d { stage = stage.Named; names = record d.names { variables = d.names.variables ++ n ∷ [] }; starts = d.starts ++ value ∷ [] })
+    → Grown (record d { stage = stage.Named }) (Variable n value)
+    (record d { stage = stage.Named; names = record d.names { variables = d.names.variables ++ n ∷ [] }; starts = d.starts ++ value ∷ [] })
 variable_grown d n value new g = record {
   more =
-      let last_one = last (variables d.names.variables d.starts) (variables (d.names.variables ++ n ∷ []) (d.starts ++ value ∷ [])) (Variable n value) (variables_push d.names.variables d.starts n value g.names.starts) in
+      let last_one = last (variables d.names.variables d.starts) (variables (d.names.variables ++ n ∷ []) (d.starts ++ value ∷ [])) (Variable n value)
+      (variables_push d.names.variables d.starts n value g.names.starts) in
       rw (g.at.0, g.at.1) (headed d.cycle _ _ (Variable n value) (behind (map Input d.names.inputs) _ _ (Variable n value) (behind (map Output d.names.outputs) _ _ (Variable n value) (behind (map Analog d.names.analog) _ _ (Variable n value) last_one))));
   count = omega arith;
   good = record {
@@ -289,7 +304,8 @@ variable_grown d n value new g = record {
   };
 }
 
-relay_grown : (d : Draft) (n : List ℕ) → (is_none d.names.persistent && nat_lt (length d.names.relays) most_bits) ≡ true → list_any (bytes_eq n) d.names.relays ≡ false → Good (record d { stage = stage.Kept })
+relay_grown : (d : Draft) (n : List ℕ) → (is_none d.names.persistent && nat_lt (length d.names.relays) MOST_BITS) ≡ true
+    → list_any (bytes_eq n) d.names.relays ≡ false → Good (record d { stage = stage.Kept })
     → Grown (record d { stage = stage.Kept }) (Relay n) (record d { stage = stage.Kept; names = record d.names { relays = d.names.relays ++ n ∷ [] } })
 relay_grown d n room new g = record {
   more = rw none (headed d.cycle _ _ (Relay n) (behind (map Input d.names.inputs) _ _ (Relay n) (behind (map Output d.names.outputs) _ _ (Relay n) (behind (map Analog d.names.analog) _ _ (Relay n) (behind (variables d.names.variables d.starts) _ _ (Relay n) (one_more Relay d.names.relays n))))));
@@ -316,11 +332,13 @@ relay_grown d n room new g = record {
     none : d.names.persistent ≡ []
     none = none_is d.names.persistent (and_left (is_none d.names.persistent) _ room)
 
-    few : nat_lt (length d.names.relays) most_bits ≡ true
+    few : nat_lt (length d.names.relays) MOST_BITS ≡ true
     few = and_right (is_none d.names.persistent) _ room
 
-persistent_grown : (d : Draft) (n : List ℕ) → (list_any (bytes_eq n) d.names.variables && nat_lt (length d.names.persistent) most_persistent) ≡ true → list_any (bytes_eq n) d.names.persistent ≡ false → Good (record d { stage = stage.Kept })
-    → Grown (record d { stage = stage.Kept }) (Persistent n) (record d { stage = stage.Kept; names = record d.names { persistent = d.names.persistent ++ n ∷ [] } })
+persistent_grown : (d : Draft) (n : List ℕ) → (list_any (bytes_eq n) d.names.variables && nat_lt (length d.names.persistent) MOST_PERSISTENT) ≡ true
+    → list_any (bytes_eq n) d.names.persistent ≡ false → Good (record d { stage = stage.Kept })
+    → Grown (record d { stage = stage.Kept }) (Persistent n)
+    (record d { stage = stage.Kept; names = record d.names { persistent = d.names.persistent ++ n ∷ [] } })
 persistent_grown d n room new g = record {
   more = simp (map-append, append_assoc, append-nil);
   count = omega arith;
@@ -333,7 +351,8 @@ persistent_grown d n room new g = record {
       relays = g.names.relays;
       persistent = differ_push d.names.persistent n g.names.persistent new;
       analog_names = g.names.analog_names;
-      persistent_variables = list_all-append (λ m. list_any (bytes_eq m) d.names.variables) d.names.persistent (n ∷ []) ∙ rw (g.names.persistent_variables, is_variable) refl;
+      persistent_variables =
+          list_all-append (λ m. list_any (bytes_eq m) d.names.variables) d.names.persistent (n ∷ []) ∙ rw (g.names.persistent_variables, is_variable) refl;
       starts = g.names.starts;
       few_relays = g.names.few_relays;
       few_persistent = let long = length-append d.names.persistent (n ∷ []) in grind (arith, nat_tests, few);
@@ -346,10 +365,11 @@ persistent_grown d n room new g = record {
     is_variable : list_any (bytes_eq n) d.names.variables ≡ true
     is_variable = and_left (list_any (bytes_eq n) d.names.variables) _ room
 
-    few : nat_lt (length d.names.persistent) most_persistent ≡ true
+    few : nat_lt (length d.names.persistent) MOST_PERSISTENT ≡ true
     few = and_right (list_any (bytes_eq n) d.names.variables) _ room
 
-bits_grown : (d : Draft) (n : ℕ) → (nat_le (length d.names.relays) n && nat_le n most_bits) ≡ true → Good (record d { stage = stage.Kept }) → Grown (record d { stage = stage.Kept }) (BitCount n) (record d { stage = stage.Sized; bits = n })
+bits_grown : (d : Draft) (n : ℕ) → (nat_le (length d.names.relays) n && nat_le n MOST_BITS) ≡ true → Good (record d { stage = stage.Kept })
+    → Grown (record d { stage = stage.Kept }) (BitCount n) (record d { stage = stage.Sized; bits = n })
 bits_grown d n fits g = record {
   more = simp (append_assoc, append-nil);
   count = omega arith;
@@ -361,13 +381,14 @@ bits_grown d n fits g = record {
 }
   where
     enough : nat_le (length d.names.relays) n ≡ true
-    enough = and_left (nat_le (length d.names.relays) n) (nat_le n most_bits) fits
+    enough = and_left (nat_le (length d.names.relays) n) (nat_le n MOST_BITS) fits
 
-    few : nat_le n most_bits ≡ true
-    few = and_right (nat_le (length d.names.relays) n) (nat_le n most_bits) fits
+    few : nat_le n MOST_BITS ≡ true
+    few = and_right (nat_le (length d.names.relays) n) (nat_le n MOST_BITS) fits
 
 -- what was sized stays so
-still_sized : (s t : Stage) (d : Draft) (ops : List IntOp) (es : List Bool) → IsSized (record d { stage = s }) → IsSized (record d { stage = t; ops = ops; ifs = es })
+still_sized : (s t : Stage) (d : Draft) (ops : List IntOp) (es : List Bool) → IsSized (record d { stage = s })
+    → IsSized (record d { stage = t; ops = ops; ifs = es })
 still_sized s t d ops es h = record { analog_variables = h.analog_variables; enough = h.enough; few = h.few }
 
 code_grown : (d : Draft) → Good (record d { stage = stage.Sized }) → Grown (record d { stage = stage.Sized }) Code (record d { stage = stage.Coded })
@@ -386,7 +407,9 @@ nests_step Closes [] fs rest h = absurd cc
 nests_step Closes (e ∷ es) fs rest h = ap rest cc
 nests_step Plain es fs rest h = ap rest cc
 
-op_grown : (d : Draft) (op : IntOp) (es : List Bool) → is_in_range (sizes d) op ≡ true → ifs_behind (shape_of op) d.ifs ≡ Some es → Good (record d { stage = stage.Coded }) → Grown (record d { stage = stage.Coded }) (Operation op) (record d { stage = stage.Coded; ops = d.ops ++ op ∷ []; ifs = es })
+op_grown : (d : Draft) (op : IntOp) (es : List Bool) → is_in_range (sizes d) op ≡ true → ifs_behind (shape_of op) d.ifs ≡ Some es
+    → Good (record d { stage = stage.Coded })
+    → Grown (record d { stage = stage.Coded }) (Operation op) (record d { stage = stage.Coded; ops = d.ops ++ op ∷ []; ifs = es })
 op_grown d op es range behind g = record {
   more = simp (map-append, append_assoc);
   count = length-append d.ops (op ∷ []);
@@ -394,13 +417,16 @@ op_grown d op es range behind g = record {
     names = g.names;
     operations = record {
       range = All-push (IsInRange (sizes d)) d.ops op g.operations.range ((range_decides (sizes d) op).0 range);
-      open_ifs = λ rest. ap (λ ops. nests ops []) (append_assoc d.ops (op ∷ []) rest) ∙ g.operations.open_ifs (op ∷ rest) ∙ nests_step (shape_of op) d.ifs es (nests rest) behind;
+      open_ifs =
+          λ rest. ap (λ ops. nests ops []) (append_assoc d.ops (op ∷ []) rest) ∙ g.operations.open_ifs (op ∷ rest)
+          ∙ nests_step (shape_of op) d.ifs es (nests rest) behind;
     };
     at = still_sized stage.Coded stage.Coded d (d.ops ++ op ∷ []) es g.at;
   };
 }
 
-end_grown : (d : Draft) → is_none d.ifs ≡ true → Good (record d { stage = stage.Coded }) → Grown (record d { stage = stage.Coded }) End (record d { stage = stage.Ended })
+end_grown : (d : Draft) → is_none d.ifs ≡ true → Good (record d { stage = stage.Coded })
+    → Grown (record d { stage = stage.Coded }) End (record d { stage = stage.Ended })
 end_grown d none g = record {
   more = simp append_assoc;
   count = omega arith;
@@ -409,12 +435,16 @@ end_grown d none g = record {
 
 grow_kept : (d : Draft) (l : Line) → Good (record d { stage = stage.Kept }) → Grows (record d { stage = stage.Kept }) l (step_kept d l)
 grow_kept d (Relay n) g =
-    if_grows (record d { stage = stage.Kept }) (Relay n) (is_none d.names.persistent && nat_lt (length d.names.relays) most_bits) _ (λ room.
-    name_grows (record d { stage = stage.Kept }) (Relay n) n d.names.relays (λ ns. record d { stage = stage.Kept; names = record d.names { relays = ns } }) (λ new. relay_grown d n room new g))
+    if_grows (record d { stage = stage.Kept }) (Relay n) (is_none d.names.persistent && nat_lt (length d.names.relays) MOST_BITS) _ (λ room.
+    name_grows (record d { stage = stage.Kept }) (Relay n) n d.names.relays (λ ns. record d { stage = stage.Kept; names = record d.names { relays = ns } })
+    (λ new. relay_grown d n room new g))
 grow_kept d (Persistent n) g =
-    if_grows (record d { stage = stage.Kept }) (Persistent n) (list_any (bytes_eq n) d.names.variables && nat_lt (length d.names.persistent) most_persistent) _ (λ room.
-    name_grows (record d { stage = stage.Kept }) (Persistent n) n d.names.persistent (λ ns. record d { stage = stage.Kept; names = record d.names { persistent = ns } }) (λ new. persistent_grown d n room new g))
-grow_kept d (BitCount n) g = if_grows (record d { stage = stage.Kept }) (BitCount n) (nat_le (length d.names.relays) n && nat_le n most_bits) _ (λ fits. bits_grown d n fits g)
+    if_grows (record d { stage = stage.Kept }) (Persistent n) (list_any (bytes_eq n) d.names.variables && nat_lt (length d.names.persistent) MOST_PERSISTENT) _
+    (λ room.
+    name_grows (record d { stage = stage.Kept }) (Persistent n) n d.names.persistent
+    (λ ns. record d { stage = stage.Kept; names = record d.names { persistent = ns } }) (λ new. persistent_grown d n room new g))
+grow_kept d (BitCount n) g =
+    if_grows (record d { stage = stage.Kept }) (BitCount n) (nat_le (length d.names.relays) n && nat_le n MOST_BITS) _ (λ fits. bits_grown d n fits g)
 grow_kept d l g = tt
 
 -- Where each analog name is a variable, lines may come that stand behind the variables.
@@ -425,22 +455,31 @@ from_kept : (d : Draft) (l : Line) (o : Option Draft) → Grows (record d { stag
 from_kept d l None g = tt
 from_kept d l (Some e) g = record { more = g.more; count = g.count; good = g.good }
 
-grow_on : (d : Draft) (l : Line) → Good (record d { stage = stage.Named }) → Grows (record d { stage = stage.Named }) l (if are_in d.names.variables d.names.analog then step_kept d l else None)
-grow_on d l g = if_grows (record d { stage = stage.Named }) l (are_in d.names.variables d.names.analog) (step_kept d l) (λ h. from_kept d l (step_kept d l) (grow_kept d l (as_kept d h g)))
+grow_on : (d : Draft) (l : Line) → Good (record d { stage = stage.Named })
+    → Grows (record d { stage = stage.Named }) l (if are_in d.names.variables d.names.analog then step_kept d l else None)
+grow_on d l g =
+    if_grows (record d { stage = stage.Named }) l (are_in d.names.variables d.names.analog) (step_kept d l)
+    (λ h. from_kept d l (step_kept d l) (grow_kept d l (as_kept d h g)))
 
-pub grow : (s : Stage) (d : Draft) (l : Line) → IsInForm l → Good (record d { stage = s }) → Grows (record d { stage = s }) l (step_at s (record d { stage = s }) l)
+pub grow : (s : Stage) (d : Draft) (l : Line) → IsInForm l → Good (record d { stage = s })
+    → Grows (record d { stage = s }) l (step_at s (record d { stage = s }) l)
 grow stage.Start d Magic named g = magic_grown d g
 grow stage.Headed d (Cycle n) named g = cycle_grown d n g
 grow stage.Named d (Input n) named g =
     if_grows (record d { stage = stage.Named }) (Input n) (is_none d.names.outputs && (is_none d.names.analog && is_none d.names.variables)) _ (λ none.
-    name_grows (record d { stage = stage.Named }) (Input n) n d.names.inputs (λ ns. record d { stage = stage.Named; names = record d.names { inputs = ns } }) (λ new. input_grown d n none new g))
+    name_grows (record d { stage = stage.Named }) (Input n) n d.names.inputs (λ ns. record d { stage = stage.Named; names = record d.names { inputs = ns } })
+    (λ new. input_grown d n none new g))
 grow stage.Named d (Output n) named g =
     if_grows (record d { stage = stage.Named }) (Output n) (is_none d.names.analog && is_none d.names.variables) _ (λ none.
-    name_grows (record d { stage = stage.Named }) (Output n) n d.names.outputs (λ ns. record d { stage = stage.Named; names = record d.names { outputs = ns } }) (λ new. output_grown d n none new g))
+    name_grows (record d { stage = stage.Named }) (Output n) n d.names.outputs (λ ns. record d { stage = stage.Named; names = record d.names { outputs = ns } })
+    (λ new. output_grown d n none new g))
 grow stage.Named d (Analog n) named g =
     if_grows (record d { stage = stage.Named }) (Analog n) (is_none d.names.variables) _ (λ none.
-    name_grows (record d { stage = stage.Named }) (Analog n) n d.names.analog (λ ns. record d { stage = stage.Named; names = record d.names { analog = ns } }) (λ new. analog_grown d n none new named g))
-grow stage.Named d (Variable n value) named g = name_grows (record d { stage = stage.Named }) (Variable n value) n d.names.variables (λ ns. record d { stage = stage.Named; names = record d.names { variables = ns }; starts = d.starts ++ value ∷ [] }) (λ new. variable_grown d n value new g)
+    name_grows (record d { stage = stage.Named }) (Analog n) n d.names.analog (λ ns. record d { stage = stage.Named; names = record d.names { analog = ns } })
+    (λ new. analog_grown d n none new named g))
+grow stage.Named d (Variable n value) named g =
+    name_grows (record d { stage = stage.Named }) (Variable n value) n d.names.variables
+    (λ ns. record d { stage = stage.Named; names = record d.names { variables = ns }; starts = d.starts ++ value ∷ [] }) (λ new. variable_grown d n value new g)
 grow stage.Named d (Relay n) named g = grow_on d (Relay n) g
 grow stage.Named d (Persistent n) named g = grow_on d (Persistent n) g
 grow stage.Named d (BitCount n) named g = grow_on d (BitCount n) g
@@ -449,6 +488,7 @@ grow stage.Kept d l named g = grow_kept d l g
 grow stage.Sized d Code named g = code_grown d g
 grow stage.Coded d (Operation op) named g =
     if_grows (record d { stage = stage.Coded }) (Operation op) (is_in_range (sizes d) op) _ (λ range.
-    ifs_grow (record d { stage = stage.Coded }) (Operation op) (λ es. record d { stage = stage.Coded; ops = d.ops ++ op ∷ []; ifs = es }) (ifs_behind (shape_of op) d.ifs) (λ es behind. op_grown d op es range behind g))
+    ifs_grow (record d { stage = stage.Coded }) (Operation op) (λ es. record d { stage = stage.Coded; ops = d.ops ++ op ∷ []; ifs = es })
+    (ifs_behind (shape_of op) d.ifs) (λ es behind. op_grown d op es range behind g))
 grow stage.Coded d End named g = if_grows (record d { stage = stage.Coded }) End (is_none d.ifs) _ (λ none. end_grown d none g)
 grow s d l named g = tt

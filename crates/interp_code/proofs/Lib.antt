@@ -1,6 +1,5 @@
 pub mod ValueLemmas
 pub mod WordLemmas
-pub mod NameLemmas
 pub mod BoolLemmas
 pub mod RangeTests
 pub mod Reading
@@ -12,5 +11,6 @@ pub mod WholeText
 pub mod SaidLines
 pub mod MissingLemmas
 pub mod Outcomes
+pub mod OutcomeLemmas
 pub mod RunnableLemmas
 pub mod WritableLemmas

@@ -42,7 +42,8 @@ missing_pass ok vs (n ∷ ns) h =
     let others = and_right (ok n) (list_all ok ns) h in
     by (list_any (bytes_eq n) vs) (missing_pass ok vs ns others) (missing_pass ok (vs ++ n ∷ []) ns others)
   where
-    by : (b : Bool) → list_all ok (missing vs ns) ≡ true → list_all ok (missing (vs ++ n ∷ []) ns) ≡ true → list_all ok (if b then missing vs ns else n ∷ missing (vs ++ n ∷ []) ns) ≡ true
+    by : (b : Bool) → list_all ok (missing vs ns) ≡ true → list_all ok (missing (vs ++ n ∷ []) ns) ≡ true
+        → list_all ok (if b then missing vs ns else n ∷ missing (vs ++ n ∷ []) ns) ≡ true
     by true old new = old
     by false old new = rw (and_left (ok n) (list_all ok ns) h) new
 

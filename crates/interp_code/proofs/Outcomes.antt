@@ -8,7 +8,7 @@ use Rattle.std.specs.Option.{option_and_then}
 use Rattle.texts.specs.Lines.{onto, lines}
 use Rattle.texts.specs.Limits.{judged, is_over}
 use Rattle.texts.specs.declared.limits.TheConstants.{CODE_BYTES}
-use Rattle.texts.specs.Refusal.{Begins}
+use Rattle.texts.specs.Begins.{Begins}
 use Rattle.texts.proofs.LimitLemmas.{judged_all}
 use Rattle.interp_code.specs.declared.program.InterpProgram.{InterpProgram}
 use Rattle.interp_code.specs.declared.reader.Stage.{Stage}
@@ -18,11 +18,13 @@ use Rattle.int_code.specs.declared.op.IntOp.TheVariants.{Fi}
 use Rattle.int_code.specs.WellFormed.{nests}
 use Rattle.interp_code.specs.Line.{Line, Magic, Cycle, Input, Output, Analog, Relay, Persistent, BitCount, Code, Operation, End, line_of}
 use Rattle.interp_code.specs.Text.{variables, line_text}
-use Rattle.interp_code.specs.Program.{are_in, Says, IsProgram, most_operations, most_bits}
+use Rattle.int_code.specs.declared.limits.TheConstants.{MOST_OPERATIONS, MOST_BITS}
+use Rattle.interp_code.specs.Program.{are_in, Says, IsProgram}
 use Rattle.ladder_tree.specs.declared.names.Names.{Names}
 use Rattle.ladder_tree.specs.Names.{is_name_within}
 use Rattle.interp_code.specs.Refused.{operations_of, operations_in, IsBegun, IsRefusedAt}
-use Rattle.interp_code.specs.Draft.{Draft, Takes, is_ended, start, step, step_line, read}
+use Rattle.texts.specs.Keys.{Takes}
+use Rattle.interp_code.specs.Draft.{Draft, is_ended, start, step, step_line, read}
 use Rattle.interp_code.specs.Held.{name_count, program_of}
 use Rattle.interp_code.specs.Outcome.{IsStopped}
 use Rattle.interp_code.proofs.ReadsBack.{magic_reads, cycle_reads, bits_reads, code_reads, fi_reads, end_reads}
@@ -44,14 +46,17 @@ and_some : (o : Option Draft) → option_and_then (λ e. read e []) o ≡ o
 and_some None = refl
 and_some (Some e) = refl
 
-pub read_push : (d : Draft) (passed : List (List ℕ)) (line : List ℕ) (o : Option Draft) → read start passed ≡ Some d → step_line d line ≡ o → read start (passed ++ line ∷ []) ≡ o
+pub read_push : (d : Draft) (passed : List (List ℕ)) (line : List ℕ) (o : Option Draft) → read start passed ≡ Some d → step_line d line ≡ o
+    → read start (passed ++ line ∷ []) ≡ o
 read_push d passed line o h k = read-append start passed (line ∷ []) ∙ rw h (and_some (step_line d line) ∙ k)
 
 front : (ls passed rest : List (List ℕ)) (n : ℕ) → ls ≡ passed ++ rest → n ≡ length passed → take n ls ≡ passed
 front ls passed rest n h e = rw (e, h) (take-append_seam passed rest)
 
-stops : (ls passed rest : List (List ℕ)) (line : List ℕ) (n : ℕ) (d : Draft) → ls ≡ passed ++ (line ∷ rest) → n ≡ length passed → read start passed ≡ Some d → length d.ops ≤ most_operations
-    → (read start (passed ++ line ∷ []) ≡ None) ⊎ ((e : Draft) × (read start (passed ++ line ∷ []) ≡ Some e) × (most_operations < length e.ops)) → IsStopped ls (n + 1)
+stops : (ls passed rest : List (List ℕ)) (line : List ℕ) (n : ℕ) (d : Draft) → ls ≡ passed ++ (line ∷ rest) → n ≡ length passed → read start passed ≡ Some d
+    → length d.ops ≤ MOST_OPERATIONS
+    → (read start (passed ++ line ∷ []) ≡ None) ⊎ ((e : Draft) × (read start (passed ++ line ∷ []) ≡ Some e) × (MOST_OPERATIONS < length e.ops))
+    → IsStopped ls (n + 1)
 stops ls passed rest line n d parts count before few cause = record {
   some = omega arith;
   within = let size = ap length parts ∙ length-append passed (line ∷ rest) in omega (arith, size);
@@ -62,13 +67,19 @@ stops ls passed rest line n d parts count before few cause = record {
 }
   where
     with_it : take (n + 1) ls ≡ passed ++ line ∷ []
-    with_it = let size = length-append passed (line ∷ []) in front ls (passed ++ line ∷ []) rest (n + 1) (parts ∙ sym (append_assoc passed (line ∷ []) rest)) (omega (arith, size))
+    with_it =
+        let size = length-append passed (line ∷ []) in
+        front ls (passed ++ line ∷ []) rest (n + 1) (parts ∙ sym (append_assoc passed (line ∷ []) rest)) (omega (arith, size))
 
-pub stops_unread : (ls passed rest : List (List ℕ)) (line : List ℕ) (n : ℕ) (d : Draft) → ls ≡ passed ++ (line ∷ rest) → n ≡ length passed → read start passed ≡ Some d → length d.ops ≤ most_operations → step_line d line ≡ None → IsStopped ls (n + 1)
-stops_unread ls passed rest line n d parts count before few none = stops ls passed rest line n d parts count before few (inl (read_push d passed line None before none))
+pub stops_unread : (ls passed rest : List (List ℕ)) (line : List ℕ) (n : ℕ) (d : Draft) → ls ≡ passed ++ (line ∷ rest) → n ≡ length passed
+    → read start passed ≡ Some d → length d.ops ≤ MOST_OPERATIONS → step_line d line ≡ None → IsStopped ls (n + 1)
+stops_unread ls passed rest line n d parts count before few none =
+    stops ls passed rest line n d parts count before few (inl (read_push d passed line None before none))
 
-pub stops_past : (ls passed rest : List (List ℕ)) (line : List ℕ) (n : ℕ) (d e : Draft) → ls ≡ passed ++ (line ∷ rest) → n ≡ length passed → read start passed ≡ Some d → length d.ops ≤ most_operations → step_line d line ≡ Some e → most_operations < length e.ops → IsStopped ls (n + 1)
-stops_past ls passed rest line n d e parts count before few read over = stops ls passed rest line n d parts count before few (inr (e, read_push d passed line (Some e) before read, over))
+pub stops_past : (ls passed rest : List (List ℕ)) (line : List ℕ) (n : ℕ) (d e : Draft) → ls ≡ passed ++ (line ∷ rest) → n ≡ length passed
+    → read start passed ≡ Some d → length d.ops ≤ MOST_OPERATIONS → step_line d line ≡ Some e → MOST_OPERATIONS < length e.ops → IsStopped ls (n + 1)
+stops_past ls passed rest line n d e parts count before few read over =
+    stops ls passed rest line n d parts count before few (inr (e, read_push d passed line (Some e) before read, over))
 
 -- What was read, and how many of its lines are operations.
 
@@ -81,7 +92,8 @@ abbrev GrowsBy : Draft → List (List ℕ) → Option Draft → Type 0
 GrowsBy d ls None = Unit {0}
 GrowsBy d ls (Some e) = GrownBy d ls e
 
-grown_on : (d : Draft) (l : List ℕ) (x : Line) (f : Draft) (ls : List (List ℕ)) (e : Draft) → line_of l ≡ Some x → Grown d x f → GrownBy f ls e → GrownBy d (l ∷ ls) e
+grown_on : (d : Draft) (l : List ℕ) (x : Line) (f : Draft) (ls : List (List ℕ)) (e : Draft) → line_of l ≡ Some x → Grown d x f → GrownBy f ls e
+    → GrownBy d (l ∷ ls) e
 grown_on d l x f ls e said g h = record {
   more = h.more ∙ ap (λ xs. xs ++ map line_of ls) (ap (map Some) g.more ∙ map-append Some (written d) (x ∷ []))
       ∙ append_assoc (map Some (written d)) (Some x ∷ []) (map line_of ls)
@@ -102,11 +114,13 @@ grows_by (l ∷ ls) d g = by_line (line_of l) refl (λ f h. grows_by ls f h)
     by_rest x f said h None more = tt
     by_rest x f said h (Some e) more = grown_on d l x f ls e said h more
 
-    by_step : (x : Line) → line_of l ≡ Some x → (p : Option Draft) → Grows d x p → ((f : Draft) → Good f → GrowsBy f ls (read f ls)) → GrowsBy d (l ∷ ls) (option_and_then (λ f. read f ls) p)
+    by_step : (x : Line) → line_of l ≡ Some x → (p : Option Draft) → Grows d x p → ((f : Draft) → Good f → GrowsBy f ls (read f ls))
+        → GrowsBy d (l ∷ ls) (option_and_then (λ f. read f ls) p)
     by_step x said None h more = tt
     by_step x said (Some f) h more = by_rest x f said h (read f ls) (more f h.good)
 
-    by_line : (o : Option Line) → line_of l ≡ o → ((f : Draft) → Good f → GrowsBy f ls (read f ls)) → GrowsBy d (l ∷ ls) (option_and_then (λ f. read f ls) (option_and_then (step d) o))
+    by_line : (o : Option Line) → line_of l ≡ o → ((f : Draft) → Good f → GrowsBy f ls (read f ls))
+        → GrowsBy d (l ∷ ls) (option_and_then (λ f. read f ls) (option_and_then (step d) o))
     by_line None said more = tt
     by_line (Some x) said more = by_step x said (step d x) (grow d.stage d x (in_form l x said) g) more
 
@@ -122,7 +136,9 @@ fis (e ∷ es) = Operation Fi ∷ fis es
 abbrev ending_at : Stage → Draft → List Line
 ending_at stage.Start d = Magic ∷ (Cycle 0 ∷ (BitCount 0 ∷ (Code ∷ (End ∷ []))))
 ending_at stage.Headed d = Cycle 0 ∷ (BitCount 0 ∷ (Code ∷ (End ∷ [])))
-ending_at stage.Named d = variables (missing d.names.variables d.names.analog) (zeros (missing d.names.variables d.names.analog)) ++ (BitCount (length d.names.relays) ∷ (Code ∷ (End ∷ [])))
+ending_at stage.Named d =
+    variables (missing d.names.variables d.names.analog) (zeros (missing d.names.variables d.names.analog)) ++
+    (BitCount (length d.names.relays) ∷ (Code ∷ (End ∷ [])))
 ending_at stage.Kept d = BitCount (length d.names.relays) ∷ (Code ∷ (End ∷ []))
 ending_at stage.Sized d = Code ∷ (End ∷ [])
 ending_at stage.Coded d = fis d.ifs ++ End ∷ []
@@ -133,7 +149,7 @@ unfolding fis
 fis_read [] = tt
 fis_read (e ∷ es) = (fi_reads, fis_read es)
 
-sized_reads : (ns : List (List ℕ)) → length ns ≤ most_bits → AllRead (BitCount (length ns) ∷ (Code ∷ (End ∷ [])))
+sized_reads : (ns : List (List ℕ)) → length ns ≤ MOST_BITS → AllRead (BitCount (length ns) ∷ (Code ∷ (End ∷ [])))
 sized_reads ns few = (bits_reads (length ns) (omega arith), (code_reads, (end_reads, tt)))
 
 ending_reads : (s : Stage) (d : Draft) → GoodNames d.names d.starts → AllRead (ending_at s d)
@@ -161,23 +177,26 @@ at_start_of_ops : (d : Draft) → d.ifs ≡ [] → Ends (run (record d { stage =
 at_start_of_ops d h = rw h (_, refl, refl)
 
 -- the number of bits ends the names, be it behind variables or behind names that are kept
-at_bits : (d : Draft) → length d.names.relays ≤ most_bits → d.ifs ≡ [] → Ends (run (record d { stage = stage.Kept }) (BitCount (length d.names.relays) ∷ (Code ∷ (End ∷ []))))
+at_bits : (d : Draft) → length d.names.relays ≤ MOST_BITS → d.ifs ≡ []
+    → Ends (run (record d { stage = stage.Kept }) (BitCount (length d.names.relays) ∷ (Code ∷ (End ∷ []))))
 at_bits d few h = rw (enough, fits, h) (_, refl, refl)
   where
     enough : nat_le (length d.names.relays) (length d.names.relays) ≡ true
     enough = grind (arith, nat_tests)
 
-    fits : nat_le (length d.names.relays) most_bits ≡ true
+    fits : nat_le (length d.names.relays) MOST_BITS ≡ true
     fits = grind (arith, nat_tests)
 
-at_bits_named : (d : Draft) → are_in d.names.variables d.names.analog ≡ true → length d.names.relays ≤ most_bits → d.ifs ≡ [] → Ends (run (record d { stage = stage.Named }) (BitCount (length d.names.relays) ∷ (Code ∷ (End ∷ []))))
+at_bits_named : (d : Draft) → are_in d.names.variables d.names.analog ≡ true → length d.names.relays ≤ MOST_BITS → d.ifs ≡ []
+    → Ends (run (record d { stage = stage.Named }) (BitCount (length d.names.relays) ∷ (Code ∷ (End ∷ []))))
 at_bits_named d all few h = rw all (at_bits d few h)
 
-at_named : (d : Draft) → length d.names.relays ≤ most_bits → d.ifs ≡ [] → Ends (run (record d { stage = stage.Named }) (ending_at stage.Named d))
+at_named : (d : Draft) → length d.names.relays ≤ MOST_BITS → d.ifs ≡ [] → Ends (run (record d { stage = stage.Named }) (ending_at stage.Named d))
 at_named d few h =
     let more = missing d.names.variables d.names.analog in
     let vs = d.names.variables ++ more in
-    let through = run_variables d d.names.variables more d.starts (zeros more) (BitCount (length d.names.relays) ∷ (Code ∷ (End ∷ []))) (zeros_count more) (missing_differ d.names.variables d.names.analog) in
+    let through = run_variables d d.names.variables more d.starts (zeros more) (BitCount (length d.names.relays) ∷ (Code ∷ (End ∷ []))) (zeros_count more)
+    (missing_differ d.names.variables d.names.analog) in
     rw through (at_bits_named (record d { names = record d.names { variables = vs }; starts = d.starts ++ zeros more }) (missing_complete d.names.variables d.names.analog) few h)
 
 ending_ends : (s : Stage) (d : Draft) → Good (record d { stage = s }) → Ends (run (record d { stage = s }) (ending_at s d))
@@ -236,7 +255,7 @@ goes_on ls d h g =
     (more, (program_of ends.0, says_whole (ls ++ more) ends.0 (grown_by (ls ++ more) start ends.0 good_start whole) ends.2))
 
 -- the lines in front of lines that were read begin a text
-pub front_begun : (a b : List (List ℕ)) (e : Draft) → read start (a ++ b) ≡ Some e → length e.ops ≤ most_operations → IsBegun a
+pub front_begun : (a b : List (List ℕ)) (e : Draft) → read start (a ++ b) ≡ Some e → length e.ops ≤ MOST_OPERATIONS → IsBegun a
 front_begun a b e h few = by (read start a) refl
   where
     at_front : (d : Draft) → read start a ≡ Some d → IsBegun a
@@ -251,7 +270,7 @@ front_begun a b e h few = by (read start a) refl
     by None k = absurd (let none : read start (a ++ b) ≡ None = read-append start a b ∙ rw k refl in let some = h in cc)
     by (Some d) k = at_front d k
 
-pub begun : (ls : List (List ℕ)) (d : Draft) → read start ls ≡ Some d → length d.ops ≤ most_operations → IsBegun ls
+pub begun : (ls : List (List ℕ)) (d : Draft) → read start ls ≡ Some d → length d.ops ≤ MOST_OPERATIONS → IsBegun ls
 begun ls d h few = front_begun ls [] d (ap (read start) (append-nil ls) ∙ h) few
 
 -- the line at which the reading stopped is refused
@@ -261,7 +280,8 @@ stopped_refused over ls line s = record {
   cause = inl (s.some, s.within, λ b. by b s.cause);
 }
   where
-    by : IsBegun (take line ls) → (read start (take line ls) ≡ None) ⊎ ((e : Draft) × (read start (take line ls) ≡ Some e) × (most_operations < length e.ops)) → ⊥
+    by : IsBegun (take line ls) → (read start (take line ls) ≡ None) ⊎ ((e : Draft) × (read start (take line ls) ≡ Some e) × (MOST_OPERATIONS < length e.ops))
+        → ⊥
     by b (inl none) = dead (take line ls) none b.goes_on
     by b (inr past) =
         let g = grown_by (take line ls) start past.0 good_start past.1 in
@@ -271,7 +291,7 @@ stopped_refused over ls line s = record {
         omega arith
 
 -- the last line of a text that is too long is refused, if none was before
-pub long_refused : (ls : List (List ℕ)) (d : Draft) → 0 < length ls → read start ls ≡ Some d → length d.ops ≤ most_operations → IsRefusedAt true ls (length ls)
+pub long_refused : (ls : List (List ℕ)) (d : Draft) → 0 < length ls → read start ls ≡ Some d → length d.ops ≤ MOST_OPERATIONS → IsRefusedAt true ls (length ls)
 long_refused ls d some h few = record {
   before = front_begun (take (length ls - 1) ls) (drop (length ls - 1) ls) d (ap (read start) (take-append-drop (length ls - 1) ls) ∙ h) few;
   cause = inr (inl (refl, some, refl));
@@ -284,7 +304,8 @@ not_ended d e same h ended =
     cc
 
 -- a text that ends before its `end` is refused behind its last line
-pub short_refused : (ls : List (List ℕ)) (d : Draft) → read start ls ≡ Some d → length d.ops ≤ most_operations → is_ended d.stage ≡ false → IsRefusedAt false ls (length ls + 1)
+pub short_refused : (ls : List (List ℕ)) (d : Draft) → read start ls ≡ Some d → length d.ops ≤ MOST_OPERATIONS → is_ended d.stage ≡ false
+    → IsRefusedAt false ls (length ls + 1)
 short_refused ls d h few open_end = record {
   before = ap_begun (begun ls d h few);
   cause = inr (inr (refl, refl, λ w. not_ended d _ (sym h ∙ says_ends ls w.0 w.1.says) open_end refl));
@@ -303,7 +324,8 @@ stage_ended stage.Ended h = refl
 stage_ended s h = absurd (false≢true h)
 
 -- a text that ends with its `end` is a program's
-pub whole_read : (ls : List (List ℕ)) (d : Draft) → read start ls ≡ Some d → length d.ops ≤ most_operations → is_ended d.stage ≡ true → IsProgram ls (program_of d)
+pub whole_read : (ls : List (List ℕ)) (d : Draft) → read start ls ≡ Some d → length d.ops ≤ MOST_OPERATIONS → is_ended d.stage ≡ true
+    → IsProgram ls (program_of d)
 whole_read ls d h few end_read = record {
   says = says_whole ls d (grown_by ls start d good_start h) (stage_ended d.stage end_read);
   few = few;
@@ -371,7 +393,8 @@ lines_some (b ∷ bs) some = by (b == 10)
 judged_some : (text : List ℕ) → CODE_BYTES < length text → 0 < length (judged CODE_BYTES text)
 judged_some text h = let size = length-take (CODE_BYTES + 1) text in omega (arith, size)
 
-pub long_text : (text : List ℕ) (d : Draft) (n : ℕ) → CODE_BYTES < length text → read start (lines (judged CODE_BYTES text)) ≡ Some d → length d.ops ≤ most_operations
+pub long_text : (text : List ℕ) (d : Draft) (n : ℕ) → CODE_BYTES < length text → read start (lines (judged CODE_BYTES text)) ≡ Some d
+    → length d.ops ≤ MOST_OPERATIONS
     → n ≡ length (lines (judged CODE_BYTES text)) → IsRefusedAt (is_over CODE_BYTES text) (lines (judged CODE_BYTES text)) n
 long_text text d n over h few e =
     let ls = lines (judged CODE_BYTES text) in
@@ -380,7 +403,8 @@ long_text text d n over h few e =
     over_it : is_over CODE_BYTES text ≡ true
     over_it = grind (arith, nat_tests)
 
-pub short_text : (text : List ℕ) (d : Draft) (n : ℕ) → length text ≤ CODE_BYTES → read start (lines (judged CODE_BYTES text)) ≡ Some d → length d.ops ≤ most_operations → is_ended d.stage ≡ false
+pub short_text : (text : List ℕ) (d : Draft) (n : ℕ) → length text ≤ CODE_BYTES → read start (lines (judged CODE_BYTES text)) ≡ Some d
+    → length d.ops ≤ MOST_OPERATIONS → is_ended d.stage ≡ false
     → n ≡ length (lines (judged CODE_BYTES text)) → IsRefusedAt (is_over CODE_BYTES text) (lines (judged CODE_BYTES text)) (n + 1)
 short_text text d n within h few open_end e = rw (not_over, e) (short_refused (lines (judged CODE_BYTES text)) d h few open_end)
   where
@@ -388,12 +412,14 @@ short_text text d n within h few open_end e = rw (not_over, e) (short_refused (l
     not_over = grind (arith, nat_tests)
 
 -- a text of which all lines were read is refused at its last, or behind it
-pub behind_refused : (text : List ℕ) (d : Draft) (n line : ℕ) → read start (lines (judged CODE_BYTES text)) ≡ Some d → length d.ops ≤ most_operations → n ≡ length (lines (judged CODE_BYTES text))
+pub behind_refused : (text : List ℕ) (d : Draft) (n line : ℕ) → read start (lines (judged CODE_BYTES text)) ≡ Some d → length d.ops ≤ MOST_OPERATIONS
+    → n ≡ length (lines (judged CODE_BYTES text))
     → ((CODE_BYTES < length text) × (line ≡ n)) ⊎ ((length text ≤ CODE_BYTES) × (is_ended d.stage ≡ false) × (line ≡ n + 1))
     → IsRefusedAt (is_over CODE_BYTES text) (lines (judged CODE_BYTES text)) line
 behind_refused text d n line h few e (inl long) = rw long.1 (long_text text d n long.0 h few e)
 behind_refused text d n line h few e (inr early) = rw early.2 (short_text text d n early.0 h few early.1 e)
 
-pub whole_text : (text : List ℕ) (d : Draft) → length text ≤ CODE_BYTES → read start (lines (judged CODE_BYTES text)) ≡ Some d → length d.ops ≤ most_operations → is_ended d.stage ≡ true
+pub whole_text : (text : List ℕ) (d : Draft) → length text ≤ CODE_BYTES → read start (lines (judged CODE_BYTES text)) ≡ Some d → length d.ops ≤ MOST_OPERATIONS
+    → is_ended d.stage ≡ true
     → IsProgram (lines text) (program_of d)
 whole_text text d within h few end_read = whole_read (lines text) d (ap (λ t. read start (lines t)) (sym (judged_all CODE_BYTES text within)) ∙ h) few end_read

@@ -1,7 +1,7 @@
 -- The test that numbers are in range says what it should.
-use Rattle.std.proofs.Common.{ℕ, ◌<◌, ◌≤◌, Bool, true, ◌&&◌, nat_lt, nat_le, length, refl, arith}
+use Rattle.std.proofs.Common.{◌≡◌, ℕ, ◌<◌, ◌≤◌, Bool, true, ◌&&◌, nat_lt, nat_le, length, refl, arith}
 use Rattle.std.specs.Bool.{Decides}
-use Rattle.std.proofs.lemmas.Bool.Decides.{nat_tests, Decides-and}
+use Rattle.std.proofs.lemmas.Bool.Decides.{nat_tests, Decides-and, same_from_decides}
 use Rattle.int_code.specs.declared.op.BitDest.{BitDest}
 use Rattle.int_code.specs.declared.op.BitDest.TheVariants as dest
 use Rattle.int_code.specs.declared.op.BitSource.{BitSource}
@@ -78,4 +78,10 @@ module _ (n : Sizes) where
   range_decides (Eebusy b) = dest_decides b
   range_decides (Eerd v a) = indexes_decide v a n.persistent
   range_decides (Eewr w a) = Decides-and (is_number n w) (nat_lt a n.persistent) (number_decides w) (below a n.persistent)
-  range_decides (Tab v w values) = three (nat_lt v n.variables) (is_number n w) (nat_le (length values) most_values) (below v n.variables) (number_decides w) (at_most (length values) most_values)
+  range_decides (Tab v w values) =
+      three (nat_lt v n.variables) (is_number n w) (nat_le (length values) most_values) (below v n.variables) (number_decides w)
+      (at_most (length values) most_values)
+
+  -- a test that decides the range is this one
+  pub same_test : (op : IntOp) (b : Bool) → Decides b (IsInRange n op) → b ≡ is_in_range n op
+  same_test op b h = same_from_decides b (is_in_range n op) h (range_decides op)

@@ -7,7 +7,7 @@ use Rattle.std.proofs.lemmas.List.Elements.{All-head, All-tail}
 use Rattle.std.specs.Option.{option_and_then}
 use Rattle.std.specs.List.{list_any, list_all}
 use Rattle.std.specs.Str.{bytes_eq}
-use Rattle.texts.specs.Refusal.{Begins}
+use Rattle.texts.specs.Begins.{Begins}
 use Rattle.ladder_tree.specs.declared.names.Names.{Names}
 use Rattle.int_code.specs.declared.op.IntOp.{IntOp}
 use Rattle.int_code.specs.declared.op.IntProgram.{IntProgram}
@@ -19,7 +19,8 @@ use Rattle.interp_code.specs.declared.program.InterpProgram.{InterpProgram}
 use Rattle.interp_code.specs.declared.reader.Stage.TheVariants as stage
 use Rattle.interp_code.specs.Line.{Line, Input, Output, Analog, Relay, Persistent, BitCount, Code, Operation, End, line_of}
 use Rattle.interp_code.specs.Text.{variables, spelled}
-use Rattle.interp_code.specs.Program.{differ_from, are_in, most_bits, most_persistent, IsSound, Says}
+use Rattle.int_code.specs.declared.limits.TheConstants.{MOST_BITS, MOST_PERSISTENT}
+use Rattle.interp_code.specs.Program.{differ_from, are_in, IsSound, Says}
 use Rattle.interp_code.specs.Draft.{Draft, start, sizes_with, ifs_behind, step, step_line, read}
 use Rattle.interp_code.proofs.BoolLemmas.{and_left, and_right, not_true}
 use Rattle.interp_code.proofs.RangeTests.{range_decides}
@@ -46,12 +47,14 @@ pub read-append : (d : Draft) (a b : List (List ℕ)) → read d (a ++ b) ≡ op
 read-append d [] b = refl
 read-append d (l ∷ ls) b = goes (step_line d l) (λ e. read-append e ls b)
   where
-    goes : (o : Option Draft) → ((e : Draft) → read e (ls ++ b) ≡ option_and_then (λ f. read f b) (read e ls)) → option_and_then (λ e. read e (ls ++ b)) o ≡ option_and_then (λ f. read f b) (option_and_then (λ e. read e ls) o)
+    goes : (o : Option Draft) → ((e : Draft) → read e (ls ++ b) ≡ option_and_then (λ f. read f b) (read e ls))
+        → option_and_then (λ e. read e (ls ++ b)) o ≡ option_and_then (λ f. read f b) (option_and_then (λ e. read e ls) o)
     goes None more = refl
     goes (Some e) more = more e
 
 -- the operations behind one nest as the reader goes on
-nests_behind : (s : Shape) (es : List Bool) (rest : List Bool → Bool) → nests_by s rest es ≡ true → (fs : List Bool) × (ifs_behind s es ≡ Some fs) × (rest fs ≡ true)
+nests_behind : (s : Shape) (es : List Bool) (rest : List Bool → Bool) → nests_by s rest es ≡ true
+    → (fs : List Bool) × (ifs_behind s es ≡ Some fs) × (rest fs ≡ true)
 nests_behind Opens es rest h = (false ∷ es, refl, h)
 nests_behind Turns [] rest h = absurd (false≢true h)
 nests_behind Turns (true ∷ es) rest h = absurd (false≢true h)
@@ -77,9 +80,12 @@ ended c ns starts n ops = record { stage = stage.Ended; cycle = c; names = ns; s
 
 -- Names of a kind: each is taken that is new, while there are fewer than the most, and that passes a test.
 abbrev Takes-each : (List ℕ → Bool) → ℕ → (List (List ℕ) → Draft) → (List ℕ → Line) → Type 0
-Takes-each ok most make f = (ns : List (List ℕ)) (n : List ℕ) → length ns < most → ok n ≡ true → list_any (bytes_eq n) ns ≡ false → step (make ns) (f n) ≡ Some (make (ns ++ n ∷ []))
+Takes-each ok most make f =
+    (ns : List (List ℕ)) (n : List ℕ) → length ns < most → ok n ≡ true → list_any (bytes_eq n) ns ≡ false → step (make ns) (f n) ≡ Some (make (ns ++ n ∷ []))
 
-run_list : (ok : List ℕ → Bool) (most : ℕ) (make : List (List ℕ) → Draft) (f : List ℕ → Line) → Takes-each ok most make f → (seen ns : List (List ℕ)) (rest : List Line) → length seen + length ns ≤ most → list_all ok ns ≡ true → differ_from seen ns ≡ true → run (make seen) (map f ns ++ rest) ≡ run (make (seen ++ ns)) rest
+run_list : (ok : List ℕ → Bool) (most : ℕ) (make : List (List ℕ) → Draft) (f : List ℕ → Line) → Takes-each ok most make f
+    → (seen ns : List (List ℕ)) (rest : List Line) → length seen + length ns ≤ most → list_all ok ns ≡ true → differ_from seen ns ≡ true
+    → run (make seen) (map f ns ++ rest) ≡ run (make (seen ++ ns)) rest
 run_list ok most make f each seen [] rest few good h = ap (λ ns. run (make ns) rest) (sym (append-nil seen))
 run_list ok most make f each seen (n ∷ ns) rest few good h =
     let new = not_true (list_any (bytes_eq n) seen) (and_left (not (list_any (bytes_eq n) seen)) (differ_from (seen ++ n ∷ []) ns) h) in
@@ -94,13 +100,16 @@ any_name [] = refl
 any_name (n ∷ ns) = any_name ns
 
 -- lists of names that have no limit
-run_names : (make : List (List ℕ) → Draft) (f : List ℕ → Line) → ((ns : List (List ℕ)) (n : List ℕ) → list_any (bytes_eq n) ns ≡ false → step (make ns) (f n) ≡ Some (make (ns ++ n ∷ []))) → (ns : List (List ℕ)) (rest : List Line) → differ_from [] ns ≡ true → run (make []) (map f ns ++ rest) ≡ run (make ns) rest
+run_names : (make : List (List ℕ) → Draft) (f : List ℕ → Line)
+    → ((ns : List (List ℕ)) (n : List ℕ) → list_any (bytes_eq n) ns ≡ false → step (make ns) (f n) ≡ Some (make (ns ++ n ∷ [])))
+    → (ns : List (List ℕ)) (rest : List Line) → differ_from [] ns ≡ true → run (make []) (map f ns ++ rest) ≡ run (make ns) rest
 run_names make f each ns rest h = run_list (λ n. true) (length ns) make f (λ ms m room ok new. each ms m new) [] ns rest (omega arith) (any_name ns) h
 
 abbrev with_variables : Draft → List (List ℕ) → List ℤ → Draft
 with_variables d vs starts = record d { stage = stage.Named; names = record d.names { variables = vs }; starts = starts }
 
-pub run_variables : (d : Draft) (seen ns : List (List ℕ)) (values starts : List ℤ) (rest : List Line) → length starts ≡ length ns → differ_from seen ns ≡ true → run (with_variables d seen values) (variables ns starts ++ rest) ≡ run (with_variables d (seen ++ ns) (values ++ starts)) rest
+pub run_variables : (d : Draft) (seen ns : List (List ℕ)) (values starts : List ℤ) (rest : List Line) → length starts ≡ length ns → differ_from seen ns ≡ true
+    → run (with_variables d seen values) (variables ns starts ++ rest) ≡ run (with_variables d (seen ++ ns) (values ++ starts)) rest
 run_variables d seen [] values [] rest same h = rw (append-nil, append-nil) refl
 run_variables d seen [] values (v ∷ vs) rest same h = absurd (omega arith)
 run_variables d seen (n ∷ ns) values [] rest same h = absurd (omega arith)
@@ -113,12 +122,14 @@ run_variables d seen (n ∷ ns) values (v ∷ vs) rest same h =
 
 -- behind the variables come the names that are kept, or the number of bits
 to_kept : (c : ℕ) (ns : Names) (starts : List ℤ) (rs ps : List (List ℕ)) (n : ℕ) (rest : List Line) → are_in ns.variables ns.analog ≡ true
-    → run (named c ns starts) (map Relay rs ++ (map Persistent ps ++ (BitCount n ∷ rest))) ≡ run (kept c ns starts) (map Relay rs ++ (map Persistent ps ++ (BitCount n ∷ rest)))
+    → run (named c ns starts) (map Relay rs ++ (map Persistent ps ++ (BitCount n ∷ rest))) ≡ run (kept c ns starts)
+    (map Relay rs ++ (map Persistent ps ++ (BitCount n ∷ rest)))
 to_kept c ns starts (r ∷ rs) ps n rest h = rw h refl
 to_kept c ns starts [] (p ∷ ps) n rest h = rw h refl
 to_kept c ns starts [] [] n rest h = rw h refl
 
-run_ops : (c : ℕ) (ns : Names) (starts : List ℤ) (n : ℕ) (done : List IntOp) (es : List Bool) (ops : List IntOp) → All (IsInRange (sizes_with n ns)) ops → nests ops es ≡ true → run (coded c ns starts n done es) (map Operation ops ++ End ∷ []) ≡ Some (ended c ns starts n (done ++ ops))
+run_ops : (c : ℕ) (ns : Names) (starts : List ℤ) (n : ℕ) (done : List IntOp) (es : List Bool) (ops : List IntOp) → All (IsInRange (sizes_with n ns)) ops
+    → nests ops es ≡ true → run (coded c ns starts n done es) (map Operation ops ++ End ∷ []) ≡ Some (ended c ns starts n (done ++ ops))
 run_ops c ns starts n done [] [] range h = ap (λ ops. Some (ended c ns starts n ops)) (sym (append-nil done))
 run_ops c ns starts n done (e ∷ es) [] range h = absurd (false≢true h)
 run_ops c ns starts n done es (op ∷ ops) range h =
@@ -129,25 +140,29 @@ run_ops c ns starts n done es (op ∷ ops) range h =
     ∙ ap (λ xs. Some (ended c ns starts n xs)) (append_assoc done (op ∷ []) ops))
 
 -- where the names and the number of bits were read, the operations follow
-run_bits : (c : ℕ) (ns : Names) (starts : List ℤ) (n : ℕ) (ops : List IntOp) → length ns.relays ≤ n → n ≤ most_bits → All (IsInRange (sizes_with n ns)) ops → nests ops [] ≡ true
+run_bits : (c : ℕ) (ns : Names) (starts : List ℤ) (n : ℕ) (ops : List IntOp) → length ns.relays ≤ n → n ≤ MOST_BITS → All (IsInRange (sizes_with n ns)) ops
+    → nests ops [] ≡ true
     → run (kept c ns starts) (BitCount n ∷ (Code ∷ (map Operation ops ++ End ∷ []))) ≡ Some (ended c ns starts n ops)
 run_bits c ns starts n ops enough few range h = rw (has_relays, fits) (run_ops c ns starts n [] [] ops range h)
   where
     has_relays : nat_le (length ns.relays) n ≡ true
     has_relays = grind (arith, nat_tests)
 
-    fits : nat_le n most_bits ≡ true
+    fits : nat_le n MOST_BITS ≡ true
     fits = grind (arith, nat_tests)
 
-pub accepts : (cycle : ℕ) (names : Names) (program : IntProgram) → IsSound names program → run start (spelled cycle names program) ≡ Some (ended cycle (record names { memories = 0 }) program.starts program.bits program.ops)
+pub accepts : (cycle : ℕ) (names : Names) (program : IntProgram) → IsSound names program
+    → run start (spelled cycle names program) ≡ Some (ended cycle (record names { memories = 0 }) program.starts program.bits program.ops)
 accepts cycle names program sound =
     run_names (λ ns. named cycle (lists ns [] [] [] [] []) []) Input (λ ns n new. rw new refl) names.inputs outputs sound.inputs
     ∙ run_names (λ ns. named cycle (lists names.inputs ns [] [] [] []) []) Output (λ ns n new. rw new refl) names.outputs analogs sound.outputs
     ∙ run_names (λ ns. named cycle (lists names.inputs names.outputs ns [] [] []) []) Analog (λ ns n new. rw new refl) names.analog vars sound.analogs
-    ∙ run_variables (named cycle (lists names.inputs names.outputs names.analog [] [] []) []) [] names.variables [] program.starts relays starts_count sound.variables
-    ∙ to_kept cycle (lists names.inputs names.outputs names.analog names.variables [] []) program.starts names.relays names.persistent program.bits (Code ∷ ops) sound.analog_variables
-    ∙ run_list (λ n. true) most_bits (λ ns. kept cycle (lists names.inputs names.outputs names.analog names.variables ns []) program.starts) Relay each_relay [] names.relays persistent few_relays (any_name names.relays) sound.relays
-    ∙ run_list (λ n. list_any (bytes_eq n) names.variables) most_persistent (λ ns. kept cycle (lists names.inputs names.outputs names.analog names.variables names.relays ns) program.starts) Persistent each_persistent [] names.persistent bits few_persistent sound.persistent_variables sound.persistent
+    ∙ run_variables
+    (named cycle (lists names.inputs names.outputs names.analog [] [] []) []) [] names.variables [] program.starts relays starts_count sound.variables
+    ∙ to_kept cycle (lists names.inputs names.outputs names.analog names.variables [] []) program.starts names.relays names.persistent program.bits
+    (Code ∷ ops) sound.analog_variables
+    ∙ run_list (λ n. true) MOST_BITS (λ ns. kept cycle (lists names.inputs names.outputs names.analog names.variables ns []) program.starts) Relay each_relay [] names.relays persistent few_relays (any_name names.relays) sound.relays
+    ∙ run_list (λ n. list_any (bytes_eq n) names.variables) MOST_PERSISTENT (λ ns. kept cycle (lists names.inputs names.outputs names.analog names.variables names.relays ns) program.starts) Persistent each_persistent [] names.persistent bits few_persistent sound.persistent_variables sound.persistent
     ∙ run_bits cycle (record names { memories = 0 }) program.starts program.bits program.ops sound.bit_count sound.few_bits range sound.well_formed.nests
   where
     ops : List Line
@@ -174,17 +189,17 @@ accepts cycle names program sound =
     starts_count : length program.starts ≡ length names.variables
     starts_count = sound.well_formed.starts ∙ sound.variable_count
 
-    few_relays : 0 + length names.relays ≤ most_bits
+    few_relays : 0 + length names.relays ≤ MOST_BITS
     few_relays = omega (arith, sound.bit_count, sound.few_bits)
 
-    few_persistent : 0 + length names.persistent ≤ most_persistent
+    few_persistent : 0 + length names.persistent ≤ MOST_PERSISTENT
     few_persistent = omega (arith, sound.few_persistent, sound.persistent_count)
 
-    each_relay : (ns : List (List ℕ)) (n : List ℕ) → length ns < most_bits → true ≡ true → list_any (bytes_eq n) ns ≡ false → step (kept cycle (lists names.inputs names.outputs names.analog names.variables ns []) program.starts) (Relay n) ≡ Some (kept cycle (lists names.inputs names.outputs names.analog names.variables (ns ++ n ∷ []) []) program.starts)
-    each_relay ns n room ok new = let few : nat_lt (length ns) most_bits ≡ true = grind (arith, nat_tests) in rw (few, new) refl
+    each_relay : (ns : List (List ℕ)) (n : List ℕ) → length ns < MOST_BITS → true ≡ true → list_any (bytes_eq n) ns ≡ false → step (kept cycle (lists names.inputs names.outputs names.analog names.variables ns []) program.starts) (Relay n) ≡ Some (kept cycle (lists names.inputs names.outputs names.analog names.variables (ns ++ n ∷ []) []) program.starts)
+    each_relay ns n room ok new = let few : nat_lt (length ns) MOST_BITS ≡ true = grind (arith, nat_tests) in rw (few, new) refl
 
-    each_persistent : (ns : List (List ℕ)) (n : List ℕ) → length ns < most_persistent → list_any (bytes_eq n) names.variables ≡ true → list_any (bytes_eq n) ns ≡ false → step (kept cycle (lists names.inputs names.outputs names.analog names.variables names.relays ns) program.starts) (Persistent n) ≡ Some (kept cycle (lists names.inputs names.outputs names.analog names.variables names.relays (ns ++ n ∷ [])) program.starts)
-    each_persistent ns n room ok new = let few : nat_lt (length ns) most_persistent ≡ true = grind (arith, nat_tests) in rw (ok, few, new) refl
+    each_persistent : (ns : List (List ℕ)) (n : List ℕ) → length ns < MOST_PERSISTENT → list_any (bytes_eq n) names.variables ≡ true → list_any (bytes_eq n) ns ≡ false → step (kept cycle (lists names.inputs names.outputs names.analog names.variables names.relays ns) program.starts) (Persistent n) ≡ Some (kept cycle (lists names.inputs names.outputs names.analog names.variables names.relays (ns ++ n ∷ [])) program.starts)
+    each_persistent ns n room ok new = let few : nat_lt (length ns) MOST_PERSISTENT ≡ true = grind (arith, nat_tests) in rw (ok, few, new) refl
 
     same : sizes_of program ≡ sizes_with program.bits names
     same = rw (sound.output_count, sound.input_count, sound.analog_count, sound.variable_count, sound.persistent_count) refl
@@ -192,7 +207,8 @@ accepts cycle names program sound =
     range : All (IsInRange (sizes_with program.bits names)) program.ops
     range = let P : Sizes → Type 0 = λ n. All (IsInRange n) program.ops in subst P same sound.well_formed.range
 
-pub says_ends : (ls : List (List ℕ)) (p : InterpProgram) → Says ls p → read start ls ≡ Some (ended p.cycle (record p.names { memories = 0 }) p.program.starts p.program.bits p.program.ops)
+pub says_ends : (ls : List (List ℕ)) (p : InterpProgram) → Says ls p
+    → read start ls ≡ Some (ended p.cycle (record p.names { memories = 0 }) p.program.starts p.program.bits p.program.ops)
 says_ends ls p says = read_said start ls (spelled p.cycle p.names p.program) says.spelled ∙ accepts p.cycle p.names p.program says.sound
 
 -- no text goes on behind lines that are not read

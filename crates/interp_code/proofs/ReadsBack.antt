@@ -35,7 +35,8 @@ line_with_one word a w h = piece_cut word a w ∙ ap (λ ws. word ∷ ws) (piece
 line_with_two : (word a b : List ℕ) → IsClean word → IsClean a → IsClean b → pieces 32 (word ++ 32 ∷ (a ++ 32 ∷ b)) ≡ word ∷ (a ∷ (b ∷ []))
 line_with_two word a b w h k = piece_cut word (a ++ 32 ∷ b) w ∙ ap (λ ws. word ∷ ws) (line_with_one a b h k)
 
-line_with_three : (word a b c : List ℕ) → IsClean word → IsClean a → IsClean b → IsClean c → pieces 32 (word ++ 32 ∷ (a ++ 32 ∷ (b ++ 32 ∷ c))) ≡ word ∷ (a ∷ (b ∷ (c ∷ [])))
+line_with_three : (word a b c : List ℕ) → IsClean word → IsClean a → IsClean b → IsClean c
+    → pieces 32 (word ++ 32 ∷ (a ++ 32 ∷ (b ++ 32 ∷ c))) ≡ word ∷ (a ∷ (b ∷ (c ∷ [])))
 line_with_three word a b c w h k l = piece_cut word (a ++ 32 ∷ (b ++ 32 ∷ c)) w ∙ ap (λ ws. word ∷ ws) (line_with_two a b c h k l)
 
 -- a space is no line feed
@@ -47,13 +48,20 @@ words_read : (l : Line) (words : List (List ℕ)) → pieces 32 (line_text l) �
 words_read l words are says clean = record { of = ap words_say are ∙ says; clean = clean }
 
 one_reads : (l : Line) (word a : List ℕ) → line_text l ≡ word ++ 32 ∷ a → IsClean word → IsClean a → words_say (word ∷ (a ∷ [])) ≡ Some l → Reads l
-one_reads l word a text w h says = words_read l (word ∷ (a ∷ [])) (ap (pieces 32) text ∙ line_with_one word a w h) says (ap (lacks 10) text ∙ spaced word a w (h 10 (omega arith)))
+one_reads l word a text w h says =
+    words_read l (word ∷ (a ∷ [])) (ap (pieces 32) text ∙ line_with_one word a w h) says (ap (lacks 10) text ∙ spaced word a w (h 10 (omega arith)))
 
-two_reads : (l : Line) (word a b : List ℕ) → line_text l ≡ word ++ 32 ∷ (a ++ 32 ∷ b) → IsClean word → IsClean a → IsClean b → words_say (word ∷ (a ∷ (b ∷ []))) ≡ Some l → Reads l
-two_reads l word a b text w h k says = words_read l (word ∷ (a ∷ (b ∷ []))) (ap (pieces 32) text ∙ line_with_two word a b w h k) says (ap (lacks 10) text ∙ spaced word (a ++ 32 ∷ b) w (spaced a b h (k 10 (omega arith))))
+two_reads : (l : Line) (word a b : List ℕ) → line_text l ≡ word ++ 32 ∷ (a ++ 32 ∷ b) → IsClean word → IsClean a → IsClean b
+    → words_say (word ∷ (a ∷ (b ∷ []))) ≡ Some l → Reads l
+two_reads l word a b text w h k says =
+    words_read l (word ∷ (a ∷ (b ∷ []))) (ap (pieces 32) text ∙ line_with_two word a b w h k) says
+    (ap (lacks 10) text ∙ spaced word (a ++ 32 ∷ b) w (spaced a b h (k 10 (omega arith))))
 
-three_reads : (l : Line) (word a b c : List ℕ) → line_text l ≡ word ++ 32 ∷ (a ++ 32 ∷ (b ++ 32 ∷ c)) → IsClean word → IsClean a → IsClean b → IsClean c → words_say (word ∷ (a ∷ (b ∷ (c ∷ [])))) ≡ Some l → Reads l
-three_reads l word a b c text w h k m says = words_read l (word ∷ (a ∷ (b ∷ (c ∷ [])))) (ap (pieces 32) text ∙ line_with_three word a b c w h k m) says (ap (lacks 10) text ∙ spaced word (a ++ 32 ∷ (b ++ 32 ∷ c)) w (spaced a (b ++ 32 ∷ c) h (spaced b c k (m 10 (omega arith)))))
+three_reads : (l : Line) (word a b c : List ℕ) → line_text l ≡ word ++ 32 ∷ (a ++ 32 ∷ (b ++ 32 ∷ c)) → IsClean word → IsClean a → IsClean b → IsClean c
+    → words_say (word ∷ (a ∷ (b ∷ (c ∷ [])))) ≡ Some l → Reads l
+three_reads l word a b c text w h k m says =
+    words_read l (word ∷ (a ∷ (b ∷ (c ∷ [])))) (ap (pieces 32) text ∙ line_with_three word a b c w h k m) says
+    (ap (lacks 10) text ∙ spaced word (a ++ 32 ∷ (b ++ 32 ∷ c)) w (spaced a (b ++ 32 ∷ c) h (spaced b c k (m 10 (omega arith)))))
 
 -- bytes above 44
 abbrev high : List ℕ → Bool
@@ -62,7 +70,9 @@ high xs = list_all (λ b. nat_le 45 b) xs
 -- a word of such bytes has no space and no line feed
 literal : (word : List ℕ) → high word ≡ true → IsClean word
 literal [] h = λ s low. refl
-literal (c ∷ cs) h = λ s low. let first = and_left (nat_le 45 c) (high cs) h in let other : (c == s) ≡ false = grind (arith, nat_tests) in rw (other, literal cs (and_right (nat_le 45 c) (high cs) h) s low) refl
+literal (c ∷ cs) h =
+    λ s low. let first = and_left (nat_le 45 c) (high cs) h in let other : (c == s) ≡ false = grind (arith, nat_tests) in rw
+    (other, literal cs (and_right (nat_le 45 c) (high cs) h) s low) refl
 
 pub magic_reads : Reads Magic
 magic_reads = record { of = refl; clean = refl }
@@ -77,10 +87,14 @@ pub fi_reads : Reads (Operation Fi)
 fi_reads = record { of = refl; clean = refl }
 
 pub cycle_reads : (n : ℕ) → n ≤ 999999999 → Reads (Cycle n)
-cycle_reads n h = let k = number_spells 999999999 n h (omega arith) in one_reads (Cycle n) (codes "cycle") (decimal n) refl (literal (codes "cycle") refl) k.clean (rw k.of refl)
+cycle_reads n h =
+    let k = number_spells 999999999 n h (omega arith) in
+    one_reads (Cycle n) (codes "cycle") (decimal n) refl (literal (codes "cycle") refl) k.clean (rw k.of refl)
 
 pub bits_reads : (n : ℕ) → n ≤ most_count → Reads (BitCount n)
-bits_reads n h = let k = number_spells most_count n h (omega arith) in one_reads (BitCount n) (codes "bits") (decimal n) refl (literal (codes "bits") refl) k.clean (rw k.of refl)
+bits_reads n h =
+    let k = number_spells most_count n h (omega arith) in
+    one_reads (BitCount n) (codes "bits") (decimal n) refl (literal (codes "bits") refl) k.clean (rw k.of refl)
 
 pub input_reads : (n : List ℕ) → is_name_within 66 n ≡ true → Reads (Input n)
 input_reads n h = let k = name_spells n h in one_reads (Input n) (codes "input") n refl (literal (codes "input") refl) k.clean (rw k.of refl)
@@ -104,7 +118,8 @@ variable_reads n value h short =
     two_reads (Variable n value) (codes "var") n (signed_decimal value) refl (literal (codes "var") refl) k.clean v.clean (rw (k.of, v.of) refl)
 
 -- the values of a table
-values_pieces : (word : List ℕ) (values : List ℤ) → IsClean word → All IsNumber values → pieces 32 (word ++ values_text values) ≡ word ∷ map signed_decimal values
+values_pieces : (word : List ℕ) (values : List ℤ) → IsClean word → All IsNumber values
+    → pieces 32 (word ++ values_text values) ≡ word ∷ map signed_decimal values
 values_pieces word [] w h = rw append-nil (piece_end word w)
 values_pieces word (n ∷ ns) w h =
     let first = integer_spells n (All-head IsNumber n ns h) in
@@ -114,7 +129,8 @@ values_clean : (values : List ℤ) → All IsNumber values → lacks 10 (values_
 values_clean [] h = refl
 values_clean (n ∷ ns) h =
     let first = integer_spells n (All-head IsNumber n ns h) in
-    list_all-append (λ b. not (b == 10)) (signed_decimal n) (values_text ns) ∙ rw (first.clean 10 (omega arith), values_clean ns (All-tail IsNumber n ns h)) refl
+    list_all-append (λ b. not (b == 10)) (signed_decimal n) (values_text ns)
+    ∙ rw (first.clean 10 (omega arith), values_clean ns (All-tail IsNumber n ns h)) refl
 
 integers_read : (values : List ℤ) → All IsNumber values → integers (map signed_decimal values) ≡ Some values
 integers_read [] h = refl
@@ -130,7 +146,8 @@ table_words : (a b c : List ℕ) (words : List (List ℕ)) → op_of (codes "tab
 table_words a b c [] = refl
 table_words a b c (d ∷ words) = refl
 
-table_says : (a b c : List ℕ) (words : List (List ℕ)) (op : IntOp) → table_of (codes "tab") a b c words ≡ Some op → words_say (codes "tab" ∷ (a ∷ (b ∷ (c ∷ words)))) ≡ Some (Operation op)
+table_says : (a b c : List ℕ) (words : List (List ℕ)) (op : IntOp) → table_of (codes "tab") a b c words ≡ Some op
+    → words_say (codes "tab" ∷ (a ∷ (b ∷ (c ∷ words)))) ≡ Some (Operation op)
 table_says a b c words op h = rw (table_words a b c words, h) refl
 
 -- a table's line, as its words and its values
@@ -138,7 +155,8 @@ table_text : (v : ℕ) (w : NumSource) (values : List ℤ) → line_text (Operat
 table_text v w values = simp append_assoc
 
 module _ (n : Sizes) (small : IsSmall n) where
-  table_reads : (v : ℕ) (w : NumSource) (values : List ℤ) → v < n.variables → IsNumSource n w → length values ≤ most_values → HoldsNumber w → All IsNumber values → Reads (Operation (Tab v w values))
+  table_reads : (v : ℕ) (w : NumSource) (values : List ℤ) → v < n.variables → IsNumSource n w → length values ≤ most_values → HoldsNumber w
+      → All IsNumber values → Reads (Operation (Tab v w values))
   table_reads v w values hv hw few short all =
       let a = variable_spells n small v hv in
       let b = source_number_spells n small w hw short in
@@ -164,11 +182,13 @@ module _ (n : Sizes) (small : IsSmall n) where
   op_reads (Cpy b s) h short =
       let b_word = dest_spells n small b h.0 in
       let s_word = source_spells n small s h.1 in
-      two_reads (Operation (Cpy b s)) (codes "cpy") (dest_text b) (source_text s) refl (literal (codes "cpy") refl) b_word.clean s_word.clean (rw (b_word.of, s_word.of) refl)
+      two_reads (Operation (Cpy b s)) (codes "cpy") (dest_text b) (source_text s) refl (literal (codes "cpy") refl) b_word.clean s_word.clean
+      (rw (b_word.of, s_word.of) refl)
   op_reads (Not b s) h short =
       let b_word = dest_spells n small b h.0 in
       let s_word = source_spells n small s h.1 in
-      two_reads (Operation (Not b s)) (codes "not") (dest_text b) (source_text s) refl (literal (codes "not") refl) b_word.clean s_word.clean (rw (b_word.of, s_word.of) refl)
+      two_reads (Operation (Not b s)) (codes "not") (dest_text b) (source_text s) refl (literal (codes "not") refl) b_word.clean s_word.clean
+      (rw (b_word.of, s_word.of) refl)
   op_reads (Ifs s) h short =
       let s_word = source_spells n small s h in
       one_reads (Operation (Ifs s)) (codes "ifs") (source_text s) refl (literal (codes "ifs") refl) s_word.clean (rw s_word.of refl)
@@ -178,45 +198,54 @@ module _ (n : Sizes) (small : IsSmall n) where
   op_reads (Iflt w u) h short =
       let w_word = source_number_spells n small w h.0 short.0 in
       let u_word = source_number_spells n small u h.1 short.1 in
-      two_reads (Operation (Iflt w u)) (codes "iflt") (number_text w) (number_text u) refl (literal (codes "iflt") refl) w_word.clean u_word.clean (rw (w_word.of, u_word.of) refl)
+      two_reads (Operation (Iflt w u)) (codes "iflt") (number_text w) (number_text u) refl (literal (codes "iflt") refl) w_word.clean u_word.clean
+      (rw (w_word.of, u_word.of) refl)
   op_reads (Ifeq w u) h short =
       let w_word = source_number_spells n small w h.0 short.0 in
       let u_word = source_number_spells n small u h.1 short.1 in
-      two_reads (Operation (Ifeq w u)) (codes "ifeq") (number_text w) (number_text u) refl (literal (codes "ifeq") refl) w_word.clean u_word.clean (rw (w_word.of, u_word.of) refl)
+      two_reads (Operation (Ifeq w u)) (codes "ifeq") (number_text w) (number_text u) refl (literal (codes "ifeq") refl) w_word.clean u_word.clean
+      (rw (w_word.of, u_word.of) refl)
   op_reads (Ifee v a) h short =
       let v_word = variable_spells n small v h.0 in
       let a_word = index_spells n.persistent a h.1 small.persistent in
-      two_reads (Operation (Ifee v a)) (codes "ifee") (variable_text v) (decimal a) refl (literal (codes "ifee") refl) v_word.clean a_word.clean (rw (v_word.of, a_word.of) refl)
+      two_reads (Operation (Ifee v a)) (codes "ifee") (variable_text v) (decimal a) refl (literal (codes "ifee") refl) v_word.clean a_word.clean
+      (rw (v_word.of, a_word.of) refl)
   op_reads Els h short = record { of = refl; clean = refl }
   op_reads Fi h short = fi_reads
   op_reads (Lit v k) h short =
       let v_word = variable_spells n small v h in
       let k_word = integer_spells k short in
-      two_reads (Operation (Lit v k)) (codes "lit") (variable_text v) (signed_decimal k) refl (literal (codes "lit") refl) v_word.clean k_word.clean (rw (v_word.of, k_word.of) refl)
+      two_reads (Operation (Lit v k)) (codes "lit") (variable_text v) (signed_decimal k) refl (literal (codes "lit") refl) v_word.clean k_word.clean
+      (rw (v_word.of, k_word.of) refl)
   op_reads (Mov v from) h short =
       let v_word = variable_spells n small v h.0 in
       let from_word = variable_spells n small from h.1 in
-      two_reads (Operation (Mov v from)) (codes "mov") (variable_text v) (variable_text from) refl (literal (codes "mov") refl) v_word.clean from_word.clean (rw (v_word.of, from_word.of) refl)
+      two_reads (Operation (Mov v from)) (codes "mov") (variable_text v) (variable_text from) refl (literal (codes "mov") refl) v_word.clean from_word.clean
+      (rw (v_word.of, from_word.of) refl)
   op_reads (Add v w u) h short =
       let v_word = variable_spells n small v h.0 in
       let w_word = source_number_spells n small w h.1 short.0 in
       let u_word = source_number_spells n small u h.2 short.1 in
-      three_reads (Operation (Add v w u)) (codes "add") (variable_text v) (number_text w) (number_text u) refl (literal (codes "add") refl) v_word.clean w_word.clean u_word.clean (rw (v_word.of, w_word.of, u_word.of) refl)
+      three_reads (Operation (Add v w u)) (codes "add") (variable_text v) (number_text w) (number_text u) refl
+      (literal (codes "add") refl) v_word.clean w_word.clean u_word.clean (rw (v_word.of, w_word.of, u_word.of) refl)
   op_reads (Sub v w u) h short =
       let v_word = variable_spells n small v h.0 in
       let w_word = source_number_spells n small w h.1 short.0 in
       let u_word = source_number_spells n small u h.2 short.1 in
-      three_reads (Operation (Sub v w u)) (codes "sub") (variable_text v) (number_text w) (number_text u) refl (literal (codes "sub") refl) v_word.clean w_word.clean u_word.clean (rw (v_word.of, w_word.of, u_word.of) refl)
+      three_reads (Operation (Sub v w u)) (codes "sub") (variable_text v) (number_text w) (number_text u) refl
+      (literal (codes "sub") refl) v_word.clean w_word.clean u_word.clean (rw (v_word.of, w_word.of, u_word.of) refl)
   op_reads (Mul v w u) h short =
       let v_word = variable_spells n small v h.0 in
       let w_word = source_number_spells n small w h.1 short.0 in
       let u_word = source_number_spells n small u h.2 short.1 in
-      three_reads (Operation (Mul v w u)) (codes "mul") (variable_text v) (number_text w) (number_text u) refl (literal (codes "mul") refl) v_word.clean w_word.clean u_word.clean (rw (v_word.of, w_word.of, u_word.of) refl)
+      three_reads (Operation (Mul v w u)) (codes "mul") (variable_text v) (number_text w) (number_text u) refl
+      (literal (codes "mul") refl) v_word.clean w_word.clean u_word.clean (rw (v_word.of, w_word.of, u_word.of) refl)
   op_reads (Div v w u) h short =
       let v_word = variable_spells n small v h.0 in
       let w_word = source_number_spells n small w h.1 short.0 in
       let u_word = source_number_spells n small u h.2 short.1 in
-      three_reads (Operation (Div v w u)) (codes "div") (variable_text v) (number_text w) (number_text u) refl (literal (codes "div") refl) v_word.clean w_word.clean u_word.clean (rw (v_word.of, w_word.of, u_word.of) refl)
+      three_reads (Operation (Div v w u)) (codes "div") (variable_text v) (number_text w) (number_text u) refl
+      (literal (codes "div") refl) v_word.clean w_word.clean u_word.clean (rw (v_word.of, w_word.of, u_word.of) refl)
   op_reads (Inc v) h short =
       let v_word = variable_spells n small v h in
       one_reads (Operation (Inc v)) (codes "inc") (variable_text v) refl (literal (codes "inc") refl) v_word.clean (rw v_word.of refl)
@@ -226,33 +255,40 @@ module _ (n : Sizes) (small : IsSmall n) where
   op_reads (Adc v k) h short =
       let v_word = variable_spells n small v h.0 in
       let k_word = index_spells n.analogs k h.1 small.analogs in
-      two_reads (Operation (Adc v k)) (codes "adc") (variable_text v) (decimal k) refl (literal (codes "adc") refl) v_word.clean k_word.clean (rw (v_word.of, k_word.of) refl)
+      two_reads (Operation (Adc v k)) (codes "adc") (variable_text v) (decimal k) refl (literal (codes "adc") refl) v_word.clean k_word.clean
+      (rw (v_word.of, k_word.of) refl)
   op_reads (Pwm w hz) h short =
       let w_word = source_number_spells n small w h short.0 in
       let few = leb-true hz most_hertz short.1 in
       let hz_word = number_spells most_count hz (omega (arith, few)) (omega (arith, few)) in
-      two_reads (Operation (Pwm w hz)) (codes "pwm") (number_text w) (decimal hz) refl (literal (codes "pwm") refl) w_word.clean hz_word.clean (rw (w_word.of, hz_word.of) refl)
+      two_reads (Operation (Pwm w hz)) (codes "pwm") (number_text w) (decimal hz) refl (literal (codes "pwm") refl) w_word.clean hz_word.clean
+      (rw (w_word.of, hz_word.of) refl)
   op_reads (Rx v b) h short =
       let v_word = variable_spells n small v h.0 in
       let b_word = dest_spells n small b h.1 in
-      two_reads (Operation (Rx v b)) (codes "rx") (variable_text v) (dest_text b) refl (literal (codes "rx") refl) v_word.clean b_word.clean (rw (v_word.of, b_word.of) refl)
+      two_reads (Operation (Rx v b)) (codes "rx") (variable_text v) (dest_text b) refl (literal (codes "rx") refl) v_word.clean b_word.clean
+      (rw (v_word.of, b_word.of) refl)
   op_reads (Tx w s b) h short =
       let w_word = source_number_spells n small w h.0 short in
       let s_word = source_spells n small s h.1 in
       let b_word = dest_spells n small b h.2 in
-      three_reads (Operation (Tx w s b)) (codes "tx") (number_text w) (source_text s) (dest_text b) refl (literal (codes "tx") refl) w_word.clean s_word.clean b_word.clean (rw (w_word.of, s_word.of, b_word.of) refl)
+      three_reads (Operation (Tx w s b)) (codes "tx") (number_text w) (source_text s) (dest_text b) refl
+      (literal (codes "tx") refl) w_word.clean s_word.clean b_word.clean (rw (w_word.of, s_word.of, b_word.of) refl)
   op_reads (Eebusy b) h short =
       let b_word = dest_spells n small b h in
       one_reads (Operation (Eebusy b)) (codes "eebusy") (dest_text b) refl (literal (codes "eebusy") refl) b_word.clean (rw b_word.of refl)
   op_reads (Eerd v a) h short =
       let v_word = variable_spells n small v h.0 in
       let a_word = index_spells n.persistent a h.1 small.persistent in
-      two_reads (Operation (Eerd v a)) (codes "eerd") (variable_text v) (decimal a) refl (literal (codes "eerd") refl) v_word.clean a_word.clean (rw (v_word.of, a_word.of) refl)
+      two_reads (Operation (Eerd v a)) (codes "eerd") (variable_text v) (decimal a) refl (literal (codes "eerd") refl) v_word.clean a_word.clean
+      (rw (v_word.of, a_word.of) refl)
   op_reads (Eewr w a) h short =
       let w_word = source_number_spells n small w h.0 short in
       let a_word = index_spells n.persistent a h.1 small.persistent in
-      two_reads (Operation (Eewr w a)) (codes "eewr") (number_text w) (decimal a) refl (literal (codes "eewr") refl) w_word.clean a_word.clean (rw (w_word.of, a_word.of) refl)
+      two_reads (Operation (Eewr w a)) (codes "eewr") (number_text w) (decimal a) refl (literal (codes "eewr") refl) w_word.clean a_word.clean
+      (rw (w_word.of, a_word.of) refl)
   op_reads (Tab v w values) h short = table_reads v w values h.0 h.1 h.2 short.0 short.1
 
-pub names_at : (names : List (List ℕ)) (i : ℕ) (n : List ℕ) → list_all (is_name_within 66) names ≡ true → i < length names → n ≡ get_or names i n → is_name_within 66 n ≡ true
+pub names_at : (names : List (List ℕ)) (i : ℕ) (n : List ℕ) → list_all (is_name_within 66) names ≡ true → i < length names → n ≡ get_or names i n
+    → is_name_within 66 n ≡ true
 names_at names i n h lt e = rw e (AllPass-from_list_all (is_name_within 66) names h i n lt)

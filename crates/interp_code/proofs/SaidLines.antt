@@ -50,7 +50,8 @@ name_passes word = either IsName (is_name_within 66 word) (Some word) None (λ h
 
 digits_pass : (most : ℕ) (ds : List ℕ) → Passes (λ n. n ≤ most) (digits_to most ds)
 digits_pass most [] = tt
-digits_pass most (c ∷ cs) = either (λ n. n ≤ most) (list_all is_digit (c ∷ cs) && nat_le (value_behind 0 (c ∷ cs)) most) (Some (value_behind 0 (c ∷ cs))) None (λ h. few h) tt
+digits_pass most (c ∷ cs) =
+    either (λ n. n ≤ most) (list_all is_digit (c ∷ cs) && nat_le (value_behind 0 (c ∷ cs)) most) (Some (value_behind 0 (c ∷ cs))) None (λ h. few h) tt
   where
     few : (list_all is_digit (c ∷ cs) && nat_le (value_behind 0 (c ∷ cs)) most) ≡ true → value_behind 0 (c ∷ cs) ≤ most
     few h = let fits = and_right (list_all is_digit (c ∷ cs)) (nat_le (value_behind 0 (c ∷ cs)) most) h in grind (arith, nat_tests)
@@ -61,14 +62,17 @@ zero_passes most (Some n) h = omega (arith, h)
 
 number_passes : (most : ℕ) (word : List ℕ) → Passes (λ n. n ≤ most) (number_to most word)
 number_passes most [] = tt
-number_passes most (c ∷ cs) = either (λ n. n ≤ most) (c == 45) (digits_to 0 cs) (digits_to most (c ∷ cs)) (λ h. zero_passes most (digits_to 0 cs) (digits_pass 0 cs)) (digits_pass most (c ∷ cs))
+number_passes most (c ∷ cs) =
+    either (λ n. n ≤ most) (c == 45) (digits_to 0 cs) (digits_to most (c ∷ cs)) (λ h. zero_passes most (digits_to 0 cs) (digits_pass 0 cs))
+    (digits_pass most (c ∷ cs))
 
 any_passes : {A : Type 0} (o : Option A) → Passes (λ (a : A). Unit {0}) o
 any_passes None = tt
 any_passes (Some a) = tt
 
 alone_passes : (word : List ℕ) → Passes IsInForm (head_alone word)
-alone_passes word = either IsInForm (bytes_eq word (codes "code")) (Some Code) _ (λ h. tt) (either IsInForm (bytes_eq word (codes "end")) (Some End) None (λ h. tt) tt)
+alone_passes word =
+    either IsInForm (bytes_eq word (codes "code")) (Some Code) _ (λ h. tt) (either IsInForm (bytes_eq word (codes "end")) (Some End) None (λ h. tt) tt)
 
 name_line_passes : (word a : List ℕ) → Passes IsInForm (name_line word a)
 name_line_passes word a =
@@ -106,7 +110,8 @@ carried : {A B : Type 0} (P : A → Type 0) (Q : B → Type 0) (f : A → B) →
 carried P Q f h None k = tt
 carried P Q f h (Some a) k = h a k
 
-behind : {A B : Type 0} (P : A → Type 0) (Q : B → Type 0) (f : A → Option B) → ((a : A) → P a → Passes Q (f a)) → (o : Option A) → Passes P o → Passes Q (option_and_then f o)
+behind : {A B : Type 0} (P : A → Type 0) (Q : B → Type 0) (f : A → Option B) → ((a : A) → P a → Passes Q (f a)) → (o : Option A) → Passes P o
+    → Passes Q (option_and_then f o)
 behind P Q f h None k = tt
 behind P Q f h (Some a) k = h a k
 
@@ -118,18 +123,21 @@ plain : {A : Type 0} (f : A → IntOp) → ((x : A) → HoldsNumbers (f x)) → 
 plain f h None = tt
 plain f h (Some x) = h x
 
-two_hold : {A B : Type 0} (P : A → Type 0) (Q : B → Type 0) (f : A → B → IntOp) → ((x : A) (y : B) → P x → Q y → HoldsNumbers (f x y)) → (a : Option A) (b : Option B) → Passes P a → Passes Q b → Passes HoldsNumbers (with_two f a b)
+two_hold : {A B : Type 0} (P : A → Type 0) (Q : B → Type 0) (f : A → B → IntOp) → ((x : A) (y : B) → P x → Q y → HoldsNumbers (f x y))
+    → (a : Option A) (b : Option B) → Passes P a → Passes Q b → Passes HoldsNumbers (with_two f a b)
 two_hold P Q f h None b j k = tt
 two_hold P Q f h (Some x) None j k = tt
 two_hold P Q f h (Some x) (Some y) j k = h x y j k
 
-three_pass : {A B C : Type 0} (P : A → Type 0) (Q : B → Type 0) (R : C → Type 0) (a : Option A) (b : Option B) (c : Option C) → Passes P a → Passes Q b → Passes R c → Passes (λ p. P p.0 × Q p.1 × R p.2) (all_three a b c)
+three_pass : {A B C : Type 0} (P : A → Type 0) (Q : B → Type 0) (R : C → Type 0) (a : Option A) (b : Option B) (c : Option C) → Passes P a → Passes Q b
+    → Passes R c → Passes (λ p. P p.0 × Q p.1 × R p.2) (all_three a b c)
 three_pass P Q R None b c i j k = tt
 three_pass P Q R (Some x) None c i j k = tt
 three_pass P Q R (Some x) (Some y) None i j k = tt
 three_pass P Q R (Some x) (Some y) (Some z) i j k = (i, j, k)
 
-three_hold : {A B C : Type 0} (P : A → Type 0) (Q : B → Type 0) (R : C → Type 0) (f : A → B → C → IntOp) → ((x : A) (y : B) (z : C) → P x → Q y → R z → HoldsNumbers (f x y z)) → (a : Option A) (b : Option B) (c : Option C)
+three_hold : {A B C : Type 0} (P : A → Type 0) (Q : B → Type 0) (R : C → Type 0) (f : A → B → C → IntOp)
+    → ((x : A) (y : B) (z : C) → P x → Q y → R z → HoldsNumbers (f x y z)) → (a : Option A) (b : Option B) (c : Option C)
     → Passes P a → Passes Q b → Passes R c → Passes HoldsNumbers (with_three f a b c)
 three_hold P Q R f h a b c i j k =
     carried (λ p. P p.0 × Q p.1 × R p.2) HoldsNumbers (λ p. f p.0 p.1 p.2) (λ p q. h p.0 p.1 p.2 q.0 q.1 q.2) (all_three a b c) (three_pass P Q R a b c i j k)
@@ -154,7 +162,9 @@ integer_passes (c ∷ cs) =
 integers_pass : (words : List (List ℕ)) → Passes (All IsNumber) (integers words)
 integers_pass [] = All-nil IsNumber
 integers_pass (w ∷ ws) =
-    behind IsNumber (All IsNumber) _ (λ n h. carried (All IsNumber) (All IsNumber) (λ ns. n ∷ ns) (λ ns k. All-cons IsNumber n ns h k) (integers ws) (integers_pass ws)) (integer w) (integer_passes w)
+    behind IsNumber (All IsNumber) _
+    (λ n h. carried (All IsNumber) (All IsNumber) (λ ns. n ∷ ns) (λ ns k. All-cons IsNumber n ns h k) (integers ws) (integers_pass ws)) (integer w)
+    (integer_passes w)
 
 source_passes : (word : List ℕ) → Passes HoldsNumber (number_of word)
 source_passes [] = tt
@@ -166,7 +176,8 @@ hertz : (hz : ℕ) → hz ≤ most_count → nat_le hz most_hertz ≡ true
 hertz hz h = grind (arith, nat_tests)
 
 op_alone_holds : (word : List ℕ) → Passes HoldsNumbers (op_alone word)
-op_alone_holds word = either HoldsNumbers (bytes_eq word (codes "els")) (Some Els) _ (λ h. tt) (either HoldsNumbers (bytes_eq word (codes "fi")) (Some Fi) None (λ h. tt) tt)
+op_alone_holds word =
+    either HoldsNumbers (bytes_eq word (codes "els")) (Some Els) _ (λ h. tt) (either HoldsNumbers (bytes_eq word (codes "fi")) (Some Fi) None (λ h. tt) tt)
 
 op_with_one_holds : (word a : List ℕ) → Passes HoldsNumbers (op_with_one word a)
 op_with_one_holds word a =
@@ -180,7 +191,8 @@ op_with_one_holds word a =
 
 device_op_holds : (word a b : List ℕ) → Passes HoldsNumbers (device_op word a b)
 device_op_holds word a b =
-    either HoldsNumbers (bytes_eq word (codes "adc")) _ _ (λ h. two_hold Any Any Adc (λ v k s t. tt) (variable_of a) (index b) (any_passes (variable_of a)) (any_passes (index b)))
+    either HoldsNumbers (bytes_eq word (codes "adc")) _ _
+    (λ h. two_hold Any Any Adc (λ v k s t. tt) (variable_of a) (index b) (any_passes (variable_of a)) (any_passes (index b)))
     (either HoldsNumbers (bytes_eq word (codes "eerd")) _ _ (λ h. two_hold Any Any Eerd (λ v k s t. tt) (variable_of a) (index b) (any_passes (variable_of a)) (any_passes (index b)))
     (either HoldsNumbers (bytes_eq word (codes "eewr")) _ _ (λ h. two_hold HoldsNumber Any Eewr (λ w k s t. s) (number_of a) (index b) (source_passes a) (any_passes (index b)))
     (either HoldsNumbers (bytes_eq word (codes "pwm")) _ _ (λ h. two_hold HoldsNumber (λ n. n ≤ most_count) Pwm (λ w hz s t. (s, hertz hz t)) (number_of a) (number_to most_count b) (source_passes a) (number_passes most_count b))
@@ -188,22 +200,26 @@ device_op_holds word a b =
 
 variable_op_holds : (word a b : List ℕ) → Passes HoldsNumbers (variable_op word a b)
 variable_op_holds word a b =
-    either HoldsNumbers (bytes_eq word (codes "lit")) _ _ (λ h. two_hold Any IsNumber Lit (λ v n s t. t) (variable_of a) (integer b) (any_passes (variable_of a)) (integer_passes b))
+    either HoldsNumbers (bytes_eq word (codes "lit")) _ _
+    (λ h. two_hold Any IsNumber Lit (λ v n s t. t) (variable_of a) (integer b) (any_passes (variable_of a)) (integer_passes b))
     (either HoldsNumbers (bytes_eq word (codes "mov")) _ _ (λ h. two_hold Any Any Mov (λ v from s t. tt) (variable_of a) (variable_of b) (any_passes (variable_of a)) (any_passes (variable_of b)))
     (either HoldsNumbers (bytes_eq word (codes "ifee")) _ _ (λ h. two_hold Any Any Ifee (λ v k s t. tt) (variable_of a) (index b) (any_passes (variable_of a)) (any_passes (index b)))
     (device_op_holds word a b)))
 
 op_with_two_holds : (word a b : List ℕ) → Passes HoldsNumbers (op_with_two word a b)
 op_with_two_holds word a b =
-    either HoldsNumbers (bytes_eq word (codes "cpy")) _ _ (λ h. two_hold Any Any Cpy (λ b s j k. tt) (dest_of a) (source_of b) (any_passes (dest_of a)) (any_passes (source_of b)))
+    either HoldsNumbers (bytes_eq word (codes "cpy")) _ _
+    (λ h. two_hold Any Any Cpy (λ b s j k. tt) (dest_of a) (source_of b) (any_passes (dest_of a)) (any_passes (source_of b)))
     (either HoldsNumbers (bytes_eq word (codes "not")) _ _ (λ h. two_hold Any Any Not (λ b s j k. tt) (dest_of a) (source_of b) (any_passes (dest_of a)) (any_passes (source_of b)))
     (either HoldsNumbers (bytes_eq word (codes "iflt")) _ _ (λ h. two_hold HoldsNumber HoldsNumber Iflt (λ w u j k. (j, k)) (number_of a) (number_of b) (source_passes a) (source_passes b))
     (either HoldsNumbers (bytes_eq word (codes "ifeq")) _ _ (λ h. two_hold HoldsNumber HoldsNumber Ifeq (λ w u j k. (j, k)) (number_of a) (number_of b) (source_passes a) (source_passes b))
     (variable_op_holds word a b))))
 
-computed_holds : (f : ℕ → NumSource → NumSource → IntOp) → ((v : ℕ) (w u : NumSource) → HoldsNumber w → HoldsNumber u → HoldsNumbers (f v w u)) → (a b c : List ℕ) → Passes HoldsNumbers (with_three f (variable_of a) (number_of b) (number_of c))
+computed_holds : (f : ℕ → NumSource → NumSource → IntOp) → ((v : ℕ) (w u : NumSource) → HoldsNumber w → HoldsNumber u → HoldsNumbers (f v w u))
+    → (a b c : List ℕ) → Passes HoldsNumbers (with_three f (variable_of a) (number_of b) (number_of c))
 computed_holds f h a b c =
-    three_hold Any HoldsNumber HoldsNumber f (λ v w u t j k. h v w u j k) (variable_of a) (number_of b) (number_of c) (any_passes (variable_of a)) (source_passes b) (source_passes c)
+    three_hold Any HoldsNumber HoldsNumber f (λ v w u t j k. h v w u j k) (variable_of a) (number_of b) (number_of c) (any_passes (variable_of a))
+    (source_passes b) (source_passes c)
 
 op_with_three_holds : (word a b c : List ℕ) → Passes HoldsNumbers (op_with_three word a b c)
 op_with_three_holds word a b c =
@@ -228,7 +244,8 @@ table_holds word a b count words = either HoldsNumbers (bytes_eq word (codes "ta
 
     table : Passes HoldsNumbers (option_and_then (table_with words) (all_three (variable_of a) (number_of b) (number_to most_values count)))
     table =
-        behind (λ p. Any p.0 × HoldsNumber p.1 × Any p.2) HoldsNumbers (table_with words) (λ p k. with_head p k.1) (all_three (variable_of a) (number_of b) (number_to most_values count))
+        behind (λ p. Any p.0 × HoldsNumber p.1 × Any p.2) HoldsNumbers (table_with words) (λ p k. with_head p k.1)
+        (all_three (variable_of a) (number_of b) (number_to most_values count))
         (three_pass Any HoldsNumber Any (variable_of a) (number_of b) (number_to most_values count) (any_passes (variable_of a)) (source_passes b) (any_passes (number_to most_values count)))
 
 op_holds : (words : List (List ℕ)) → Passes HoldsNumbers (op_of words)
@@ -236,7 +253,8 @@ op_holds [] = tt
 op_holds (word ∷ []) = op_alone_holds word
 op_holds (word ∷ (a ∷ [])) = op_with_one_holds word a
 op_holds (word ∷ (a ∷ (b ∷ []))) = op_with_two_holds word a b
-op_holds (word ∷ (a ∷ (b ∷ (c ∷ [])))) = first_of HoldsNumbers (op_with_three word a b c) (table_of word a b c []) (op_with_three_holds word a b c) (table_holds word a b c [])
+op_holds (word ∷ (a ∷ (b ∷ (c ∷ [])))) =
+    first_of HoldsNumbers (op_with_three word a b c) (table_of word a b c []) (op_with_three_holds word a b c) (table_holds word a b c [])
 op_holds (word ∷ (a ∷ (b ∷ (c ∷ (d ∷ words))))) = table_holds word a b c (d ∷ words)
 
 line_passes : (bytes : List ℕ) → Passes IsInForm (line_of bytes)

@@ -177,7 +177,8 @@ pub record IsSmall (n : Sizes) : Type 0 where
   pub persistent : n.persistent ≤ 2 ^ 32
 
 -- a letter and an index
-lettered : {A : Type 0} (read : List ℕ → Option A) (f : ℕ → A) (c n k : ℕ) → 45 ≤ c → k < n → n ≤ 2 ^ 32 → read (c ∷ decimal k) ≡ option_map f (index (decimal k)) → Spells read (c ∷ decimal k) (f k)
+lettered : {A : Type 0} (read : List ℕ → Option A) (f : ℕ → A) (c n k : ℕ) → 45 ≤ c → k < n → n ≤ 2 ^ 32
+    → read (c ∷ decimal k) ≡ option_map f (index (decimal k)) → Spells read (c ∷ decimal k) (f k)
 lettered read f c n k high h small same =
     let number = index_spells n k h small in
     record { of = same ∙ ap (option_map f) number.of; clean = letter_clean c (decimal k) high number.clean }

@@ -15,13 +15,15 @@ joined-append [] b = refl
 joined-append (l ∷ ls) b = ap (λ t. l ++ 10 ∷ t) (joined-append ls b) ∙ sym (append_assoc l (10 ∷ joined ls) (joined b))
 
 -- one line more
-pub joined_more : {A : Type 0} (f : A → List ℕ) (xs : List A) (i : ℕ) (d : A) → i < length xs → joined (map f (take (i + 1) xs)) ≡ joined (map f (take i xs)) ++ (f (get_or xs i d) ++ 10 ∷ [])
+pub joined_more : {A : Type 0} (f : A → List ℕ) (xs : List A) (i : ℕ) (d : A) → i < length xs
+    → joined (map f (take (i + 1) xs)) ≡ joined (map f (take i xs)) ++ (f (get_or xs i d) ++ 10 ∷ [])
 joined_more f xs i d h =
     ap (λ ys. joined (map f ys)) (take_more xs i d h)
     ∙ ap joined (map-append f (take i xs) (get_or xs i d ∷ []))
     ∙ joined-append (map f (take i xs)) (f (get_or xs i d) ∷ [])
 
-pub variables_push : (ns : List (List ℕ)) (values : List ℤ) (n : List ℕ) (value : ℤ) → length values ≡ length ns → variables (ns ++ n ∷ []) (values ++ value ∷ []) ≡ variables ns values ++ Variable n value ∷ []
+pub variables_push : (ns : List (List ℕ)) (values : List ℤ) (n : List ℕ) (value : ℤ) → length values ≡ length ns
+    → variables (ns ++ n ∷ []) (values ++ value ∷ []) ≡ variables ns values ++ Variable n value ∷ []
 variables_push [] [] n value h = refl
 variables_push [] (v ∷ vs) n value h = absurd (omega arith)
 variables_push (m ∷ ms) [] n value h = absurd (omega arith)
@@ -29,7 +31,8 @@ variables_push (m ∷ ms) (v ∷ vs) n value h = ap (λ ls. Variable m v ∷ ls)
 
 -- one variable's line more
 pub variables_more : (ns : List (List ℕ)) (values : List ℤ) (i : ℕ) (n : List ℕ) → length values ≡ length ns → i < length ns → n ≡ get_or ns i n
-    → joined (map line_text (variables (take (i + 1) ns) (take (i + 1) values))) ≡ joined (map line_text (variables (take i ns) (take i values))) ++ (codes "var " ++ (n ++ (codes " " ++ (signed_decimal (get_or values i (pos 0)) ++ 10 ∷ []))))
+    → joined (map line_text (variables (take (i + 1) ns) (take (i + 1) values))) ≡ joined (map line_text (variables (take i ns) (take i values))) ++
+    (codes "var " ++ (n ++ (codes " " ++ (signed_decimal (get_or values i (pos 0)) ++ 10 ∷ []))))
 variables_more ns values i n same lt is =
     let long = length-take-le i ns (omega arith) in
     let long_values = length-take-le i values (omega arith) in
@@ -39,7 +42,8 @@ variables_more ns values i n same lt is =
     ∙ ap (λ ls. joined (map line_text ls)) (variables_push (take i ns) (take i values) n value (omega (arith, long, long_values)))
     ∙ ap joined (map-append line_text (variables (take i ns) (take i values)) (Variable n value ∷ []))
     ∙ joined-append (map line_text (variables (take i ns) (take i values))) (line_text (Variable n value) ∷ [])
-    ∙ ap (λ t. joined (map line_text (variables (take i ns) (take i values))) ++ (codes "var " ++ t)) (append_assoc n (codes " " ++ signed_decimal value) (10 ∷ []))
+    ∙ ap (λ t. joined (map line_text (variables (take i ns) (take i values))) ++ (codes "var " ++ t))
+    (append_assoc n (codes " " ++ signed_decimal value) (10 ∷ []))
 
 map-twice : {A B C : Type 0} (f : B → C) (g : A → B) (xs : List A) → map f (map g xs) ≡ map (λ x. f (g x)) xs
 map-twice f g [] = refl
@@ -49,7 +53,8 @@ map-twice f g (x ∷ xs) = ap (λ ys. f (g x) ∷ ys) (map-twice f g xs)
 parts : (a b : List Line) → joined (map line_text (a ++ b)) ≡ joined (map line_text a) ++ joined (map line_text b)
 parts a b = ap joined (map-append line_text a b) ∙ joined-append (map line_text a) (map line_text b)
 
-part : {A : Type 0} (f : A → Line) (xs : List A) (rest : List Line) → joined (map line_text (map f xs ++ rest)) ≡ joined (map (λ x. line_text (f x)) xs) ++ joined (map line_text rest)
+part : {A : Type 0} (f : A → Line) (xs : List A) (rest : List Line)
+    → joined (map line_text (map f xs ++ rest)) ≡ joined (map (λ x. line_text (f x)) xs) ++ joined (map line_text rest)
 part f xs rest = parts (map f xs) rest ∙ ap (λ ls. joined ls ++ joined (map line_text rest)) (map-twice line_text f xs)
 
 -- the names as they are written

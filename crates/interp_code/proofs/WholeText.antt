@@ -26,7 +26,8 @@ pub AllRead-append : (a b : List Line) → AllRead a → AllRead b → AllRead (
 AllRead-append [] b ha hb = hb
 AllRead-append (l ∷ ls) b ha hb = (ha.0, AllRead-append ls b ha.1 hb)
 
-names_read : (f : List ℕ → Line) → ((n : List ℕ) → is_name_within 66 n ≡ true → Reads (f n)) → (ns : List (List ℕ)) → list_all (is_name_within 66) ns ≡ true → AllRead (map f ns)
+names_read : (f : List ℕ → Line) → ((n : List ℕ) → is_name_within 66 n ≡ true → Reads (f n)) → (ns : List (List ℕ)) → list_all (is_name_within 66) ns ≡ true
+    → AllRead (map f ns)
 names_read f each [] h = tt
 names_read f each (n ∷ ns) h = (each n (and_left (is_name_within 66 n) (list_all (is_name_within 66) ns) h), names_read f each ns (and_right (is_name_within 66 n) (list_all (is_name_within 66) ns) h))
 
@@ -61,7 +62,8 @@ spelled_reads cycle names program w held = (
           bits_reads program.bits (omega (arith, w.sound.few_bits)),
           (
             code_reads,
-            AllRead-append (map Operation program.ops) (End ∷ []) (ops_read (sizes_of program) held.sizes program.ops w.sound.well_formed.range w.numbers) (end_reads, tt),
+            AllRead-append (map Operation program.ops) (End ∷ []) (ops_read (sizes_of program) held.sizes program.ops w.sound.well_formed.range w.numbers)
+                (end_reads, tt),
           ),
         )))))),
   ),
@@ -74,7 +76,8 @@ joined_reads (l ∷ ls) h =
     ∙ ap (λ o. o ∷ map line_of (lines (joined (map line_text ls)))) h.0.of
     ∙ ap (λ os. Some l ∷ os) (joined_reads ls h.1)
 
-pub text_says : (cycle : ℕ) (names : Names) (program : IntProgram) → IsWritable cycle names program → IsHeld program → IsProgram (lines (interp_text cycle names program)) (read_as cycle names program)
+pub text_says : (cycle : ℕ) (names : Names) (program : IntProgram) → IsWritable cycle names program → IsHeld program
+    → IsProgram (lines (interp_text cycle names program)) (read_as cycle names program)
 text_says cycle names program w held = record {
   says = record {
     spelled = joined_reads (spelled cycle names program) (spelled_reads cycle names program w held);
@@ -108,8 +111,10 @@ text_says cycle names program w held = record {
 }
 
 -- pieces written one behind the other
-pub five : (t0 t1 t2 t3 t4 t5 a b c d e : List ℕ) → t0 ≡ [] → t1 ≡ t0 ++ a → t2 ≡ t1 ++ b → t3 ≡ t2 ++ c → t4 ≡ t3 ++ d → t5 ≡ t4 ++ e → t5 ≡ a ++ (b ++ (c ++ (d ++ e)))
-five t0 t1 t2 t3 t4 t5 a b c d e h0 h1 h2 h3 h4 h5 = rw (h5, h4, h3, h2, h1, h0) (simp append_assoc)
+pub five : (t0 t1 t2 t3 t4 t5 a b c d e : List ℕ) → t1 ≡ t0 ++ a → t2 ≡ t1 ++ b → t3 ≡ t2 ++ c → t4 ≡ t3 ++ d → t5 ≡ t4 ++ e
+    → t5 ≡ t0 ++ (a ++ (b ++ (c ++ (d ++ e))))
+five t0 t1 t2 t3 t4 t5 a b c d e h1 h2 h3 h4 h5 = rw (h5, h4, h3, h2, h1) (simp append_assoc)
 
-pub six : (t0 t1 t2 t3 t4 t5 t6 a b c d e f : List ℕ) → t1 ≡ t0 ++ a → t2 ≡ t1 ++ b → t3 ≡ t2 ++ c → t4 ≡ t3 ++ d → t5 ≡ t4 ++ e → t6 ≡ t5 ++ f → t6 ≡ t0 ++ (a ++ (b ++ (c ++ (d ++ (e ++ f)))))
+pub six : (t0 t1 t2 t3 t4 t5 t6 a b c d e f : List ℕ) → t1 ≡ t0 ++ a → t2 ≡ t1 ++ b → t3 ≡ t2 ++ c → t4 ≡ t3 ++ d → t5 ≡ t4 ++ e → t6 ≡ t5 ++ f
+    → t6 ≡ t0 ++ (a ++ (b ++ (c ++ (d ++ (e ++ f)))))
 six t0 t1 t2 t3 t4 t5 t6 a b c d e f h1 h2 h3 h4 h5 h6 = rw (h6, h5, h4, h3, h2, h1) (simp append_assoc)

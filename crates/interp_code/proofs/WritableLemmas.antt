@@ -30,11 +30,13 @@ behind [] b h = h
 behind (l ∷ ls) b h = behind ls b h.1
 
 -- the names in front of other lines
-front_names : (f : List ℕ → Line) → ((n : List ℕ) → IsInForm (f n) → IsName n) → (ns : List (List ℕ)) (rest : List Line) → AllInForm (map f ns ++ rest) → list_all (is_name_within 66) ns ≡ true
+front_names : (f : List ℕ → Line) → ((n : List ℕ) → IsInForm (f n) → IsName n) → (ns : List (List ℕ)) (rest : List Line) → AllInForm (map f ns ++ rest)
+    → list_all (is_name_within 66) ns ≡ true
 front_names f each [] rest h = refl
 front_names f each (n ∷ ns) rest h = rw (each n h.0) (front_names f each ns rest h.1)
 
-front_variables : (ns : List (List ℕ)) (values : List ℤ) (rest : List Line) → length values ≡ length ns → AllInForm (variables ns values ++ rest) → list_all (is_name_within 66) ns ≡ true
+front_variables : (ns : List (List ℕ)) (values : List ℤ) (rest : List Line) → length values ≡ length ns → AllInForm (variables ns values ++ rest)
+    → list_all (is_name_within 66) ns ≡ true
 front_variables [] values rest same h = refl
 front_variables (n ∷ ns) [] rest same h = absurd (omega arith)
 front_variables (n ∷ ns) (v ∷ vs) rest same h = rw h.0 (front_variables ns vs rest (omega arith) h.1)

@@ -1,10 +1,9 @@
 -- What the reader does with each line. Its own functions are held to this: what a text says does not rest on it.
-use Rattle.std.specs.Prelude.{◌≡◌, ℕ, Bool, true, false, ◌&&◌, List, [], ◌∷◌, ◌++◌, ℤ, length, nat_lt, nat_le, nat_eq, map, Option, None, Some, if◌then◌else◌}
+use Rattle.std.specs.Prelude.{ℕ, Bool, true, false, ◌&&◌, List, [], ◌∷◌, ◌++◌, ℤ, length, nat_lt, nat_le, nat_eq, Option, None, Some, if◌then◌else◌}
 use Rattle.std.specs.Option.{option_map, option_and_then}
 use Rattle.std.specs.List.{list_any}
 use Rattle.std.specs.Str.{bytes_eq}
-use Rattle.std.specs.HashSet.{HashSet}
-use Rattle.std.specs.Borrow.{Bor}
+use Rattle.texts.specs.Keys.{with_key}
 use Rattle.ladder_tree.specs.declared.names.Names.{Names}
 use Rattle.int_code.specs.declared.op.BitDest.{BitDest}
 use Rattle.int_code.specs.declared.op.BitDest.TheVariants as dest
@@ -16,11 +15,12 @@ use Rattle.int_code.specs.declared.op.IntOp.{IntOp}
 use Rattle.int_code.specs.declared.op.IntOp.TheVariants.{Set, Clr, Cpy, Not, Ifs, Ifc, Iflt, Ifeq, Ifee, Els, Fi, Lit, Mov, Add, Sub, Mul, Div, Inc, Dec, Adc, Pwm, Rx, Tx, Eebusy, Eerd, Eewr, Tab}
 use Rattle.int_code.specs.declared.op.Shape.{Shape}
 use Rattle.int_code.specs.declared.op.Shape.TheVariants.{Opens, Turns, Closes, Plain}
+use Rattle.int_code.specs.declared.limits.TheConstants.{MOST_BITS, MOST_PERSISTENT}
 use Rattle.int_code.specs.Shapes.{shape_of}
 use Rattle.int_code.specs.WellFormed.{Sizes, most_values}
 use Rattle.interp_code.specs.declared.reader.Stage.{Stage}
 use Rattle.interp_code.specs.declared.reader.Stage.TheVariants as stage
-use Rattle.interp_code.specs.Program.{are_in, most_bits, most_persistent}
+use Rattle.interp_code.specs.Program.{are_in}
 use Rattle.interp_code.specs.Line.{Line, Magic, Cycle, Input, Output, Analog, Variable, Relay, Persistent, BitCount, Code, Operation, End, line_of}
 
 -- what was read
@@ -107,34 +107,31 @@ ifs_behind Plain es = Some es
 abbrev pub is_none : {A : Type 0} → List A → Bool
 is_none xs = nat_eq (length xs) 0
 
--- the list with a name that it does not have
-abbrev pub with_name : List ℕ → List (List ℕ) → Option (List (List ℕ))
-with_name n names = if list_any (bytes_eq n) names then None else Some (names ++ n ∷ [])
-
 -- the draft with a name more
 abbrev pub with_input : Draft → List ℕ → Option Draft
-with_input d n = option_map (λ ns. record d { names = record d.names { inputs = ns } }) (with_name n d.names.inputs)
+with_input d n = option_map (λ ns. record d { names = record d.names { inputs = ns } }) (with_key n d.names.inputs)
 
 abbrev pub with_output : Draft → List ℕ → Option Draft
-with_output d n = option_map (λ ns. record d { names = record d.names { outputs = ns } }) (with_name n d.names.outputs)
+with_output d n = option_map (λ ns. record d { names = record d.names { outputs = ns } }) (with_key n d.names.outputs)
 
 abbrev pub with_analog : Draft → List ℕ → Option Draft
-with_analog d n = option_map (λ ns. record d { names = record d.names { analog = ns } }) (with_name n d.names.analog)
+with_analog d n = option_map (λ ns. record d { names = record d.names { analog = ns } }) (with_key n d.names.analog)
 
 abbrev pub with_variable : Draft → List ℕ → ℤ → Option Draft
-with_variable d n value = option_map (λ ns. record d { names = record d.names { variables = ns }; starts = d.starts ++ value ∷ [] }) (with_name n d.names.variables)
+with_variable d n value =
+    option_map (λ ns. record d { names = record d.names { variables = ns }; starts = d.starts ++ value ∷ [] }) (with_key n d.names.variables)
 
 abbrev pub with_relay : Draft → List ℕ → Option Draft
-with_relay d n = option_map (λ ns. record d { stage = stage.Kept; names = record d.names { relays = ns } }) (with_name n d.names.relays)
+with_relay d n = option_map (λ ns. record d { stage = stage.Kept; names = record d.names { relays = ns } }) (with_key n d.names.relays)
 
 abbrev pub with_persistent : Draft → List ℕ → Option Draft
-with_persistent d n = option_map (λ ns. record d { stage = stage.Kept; names = record d.names { persistent = ns } }) (with_name n d.names.persistent)
+with_persistent d n = option_map (λ ns. record d { stage = stage.Kept; names = record d.names { persistent = ns } }) (with_key n d.names.persistent)
 
 -- relays, persistent variables and the number of bits, behind the other names
 abbrev pub step_kept : Draft → Line → Option Draft
-step_kept d (Relay n) = if is_none d.names.persistent && nat_lt (length d.names.relays) most_bits then with_relay d n else None
-step_kept d (Persistent n) = if list_any (bytes_eq n) d.names.variables && nat_lt (length d.names.persistent) most_persistent then with_persistent d n else None
-step_kept d (BitCount n) = if nat_le (length d.names.relays) n && nat_le n most_bits then Some (record d { stage = stage.Sized; bits = n }) else None
+step_kept d (Relay n) = if is_none d.names.persistent && nat_lt (length d.names.relays) MOST_BITS then with_relay d n else None
+step_kept d (Persistent n) = if list_any (bytes_eq n) d.names.variables && nat_lt (length d.names.persistent) MOST_PERSISTENT then with_persistent d n else None
+step_kept d (BitCount n) = if nat_le (length d.names.relays) n && nat_le n MOST_BITS then Some (record d { stage = stage.Sized; bits = n }) else None
 step_kept d l = None
 
 abbrev pub step_at : Stage → Draft → Line → Option Draft
@@ -147,7 +144,8 @@ step_at stage.Named d (Variable n value) = with_variable d n value
 step_at stage.Named d l = if are_in d.names.variables d.names.analog then step_kept d l else None
 step_at stage.Kept d l = step_kept d l
 step_at stage.Sized d Code = Some (record d { stage = stage.Coded })
-step_at stage.Coded d (Operation op) = if is_in_range (sizes d) op then option_map (λ es. record d { ops = d.ops ++ op ∷ []; ifs = es }) (ifs_behind (shape_of op) d.ifs) else None
+step_at stage.Coded d (Operation op) =
+    if is_in_range (sizes d) op then option_map (λ es. record d { ops = d.ops ++ op ∷ []; ifs = es }) (ifs_behind (shape_of op) d.ifs) else None
 step_at stage.Coded d End = if is_none d.ifs then Some (record d { stage = stage.Ended }) else None
 step_at s d l = None
 
@@ -160,15 +158,6 @@ step_line d bytes = option_and_then (step d) (line_of bytes)
 abbrev pub read : Draft → List (List ℕ) → Option Draft
 read d [] = Some d
 read d (l ∷ ls) = option_and_then (λ e. read e ls) (step_line d l)
-
--- an answer, and what it leaves where it is yes
-abbrev pub Takes : {A : Type 0} → Option A → Bool → A → Type 0
-Takes o true a = o ≡ Some a
-Takes o false a = o ≡ None
-
--- names that are kept as parts of a text
-abbrev pub names_of : {S : Type 0} → HashSet (Bor (List ℕ)) S → List (List ℕ)
-names_of set = map (λ k. k.now) set.keys
 
 abbrev pub is_ended : Stage → Bool
 is_ended stage.Ended = true

@@ -1,25 +1,24 @@
 -- What the reader holds, as a draft.
 use Rattle.std.specs.Prelude.{ℕ, ◌+◌, length, reverse}
+use Rattle.texts.specs.Keys.{keys_of}
 use Rattle.ladder_tree.specs.declared.names.Names.{Names}
 use Rattle.int_code.specs.declared.op.IntProgram.{IntProgram}
-use Rattle.int_code.specs.WellFormed.{Sizes}
 use Rattle.interp_code.specs.declared.program.InterpProgram.{InterpProgram}
 use Rattle.interp_code.specs.declared.reader.Reader.{Reader}
-use Rattle.interp_code.specs.declared.range.Counts.{Counts}
 use Rattle.interp_code.specs.Program.{read_as}
-use Rattle.interp_code.specs.Draft.{Draft, names_of}
+use Rattle.interp_code.specs.Draft.{Draft}
 
 abbrev pub draft : Reader → Draft
 draft r = record {
   stage = r.stage;
   cycle = r.cycle;
   names = record {
-    inputs = names_of r.inputs;
-    outputs = names_of r.outputs;
-    relays = names_of r.relays;
-    variables = names_of r.variables;
-    analog = names_of r.analogs;
-    persistent = names_of r.persistent;
+    inputs = keys_of r.inputs;
+    outputs = keys_of r.outputs;
+    relays = keys_of r.relays;
+    variables = keys_of r.variables;
+    analog = keys_of r.analogs;
+    persistent = keys_of r.persistent;
     memories = 0;
   };
   starts = r.starts;
@@ -27,9 +26,6 @@ draft r = record {
   ops = r.ops;
   ifs = reverse r.ifs.items;
 }
-
-abbrev pub counted : Counts → Sizes
-counted c = record { bits = c.bits; outputs = c.outputs; inputs = c.inputs; analogs = c.analogs; variables = c.variables; persistent = c.persistent }
 
 abbrev pub drafted_program : Draft → IntProgram
 drafted_program d = record {
@@ -48,4 +44,5 @@ abbrev pub program_of : Draft → InterpProgram
 program_of d = read_as d.cycle d.names (drafted_program d)
 
 abbrev pub name_count : Names → ℕ
-name_count names = length names.inputs + (length names.outputs + (length names.analog + (length names.variables + (length names.relays + length names.persistent))))
+name_count names =
+    length names.inputs + (length names.outputs + (length names.analog + (length names.variables + (length names.relays + length names.persistent))))

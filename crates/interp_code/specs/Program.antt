@@ -4,6 +4,7 @@ use Rattle.std.specs.List.{list_any, list_all}
 use Rattle.std.specs.Str.{bytes_eq}
 use Rattle.ladder_tree.specs.declared.names.Names.{Names}
 use Rattle.ladder_tree.specs.Names.{is_name_within}
+use Rattle.int_code.specs.declared.limits.TheConstants.{MOST_OPERATIONS, MOST_BITS, MOST_PERSISTENT}
 use Rattle.int_code.specs.declared.op.IntProgram.{IntProgram}
 use Rattle.int_code.specs.WellFormed.{IsWellFormed}
 use Rattle.int_code.specs.Literals.{AllHoldNumbers}
@@ -20,17 +21,9 @@ differ_from seen (n ∷ ns) = not (list_any (bytes_eq n) seen) && differ_from (s
 abbrev pub all_differ : List (List ℕ) → Bool
 all_differ names = differ_from [] names
 
--- how many bits a program may have
-abbrev pub most_bits : ℕ
-most_bits = 100000
-
 -- each of the names is in the list
 abbrev pub are_in : List (List ℕ) → List (List ℕ) → Bool
 are_in list names = list_all (λ n. list_any (bytes_eq n) list) names
-
--- how many persistent variables a program may have
-abbrev pub most_persistent : ℕ
-most_persistent = 256
 
 -- names and a program that go together
 pub record IsSound (names : Names) (program : IntProgram) : Type 0 where
@@ -48,15 +41,11 @@ pub record IsSound (names : Names) (program : IntProgram) : Type 0 where
   pub analog_count : program.analogs ≡ length names.analog
   pub variable_count : program.variables ≡ length names.variables
   pub persistent_count : program.persistent ≡ length names.persistent
-  pub few_persistent : program.persistent ≤ most_persistent
+  pub few_persistent : program.persistent ≤ MOST_PERSISTENT
   -- the first bits are the relays
   pub bit_count : length names.relays ≤ program.bits
-  pub few_bits : program.bits ≤ most_bits
+  pub few_bits : program.bits ≤ MOST_BITS
   pub well_formed : IsWellFormed program
-
--- how many operations a program may have
-abbrev pub most_operations : ℕ
-most_operations = 1000000
 
 -- What a text says of names and a program: memories are bits like others, and all bits count as kept.
 abbrev pub read_as : ℕ → Names → IntProgram → InterpProgram
@@ -65,7 +54,8 @@ read_as cycle names program = record {
   names = record names { memories = 0 };
   program = record program { kept_bits = program.bits };
   -- in front of `code` stand its heading, the cycle, the names and the number of bits
-  code_line = 4 + (length names.inputs + (length names.outputs + (length names.analog + (length names.variables + (length names.relays + length names.persistent)))));
+  code_line =
+      4 + (length names.inputs + (length names.outputs + (length names.analog + (length names.variables + (length names.relays + length names.persistent)))));
 }
 
 -- The lines say the program. That it has no more operations than it may is not in this.
@@ -77,7 +67,7 @@ pub record Says (lines : List (List ℕ)) (p : InterpProgram) : Type 0 where
 -- the lines are the text of the program
 pub record IsProgram (lines : List (List ℕ)) (p : InterpProgram) : Type 0 where
   pub says : Says lines p
-  pub few : length p.program.ops ≤ most_operations
+  pub few : length p.program.ops ≤ MOST_OPERATIONS
 
 -- names and a program that have a text
 pub record IsWritable (cycle : ℕ) (names : Names) (program : IntProgram) : Type 0 where
@@ -89,5 +79,5 @@ pub record IsWritable (cycle : ℕ) (names : Names) (program : IntProgram) : Typ
   pub relays : list_all (is_name_within 66) names.relays ≡ true
   pub persistent : list_all (is_name_within 66) names.persistent ≡ true
   pub timed : cycle ≤ 999999999
-  pub few : length program.ops ≤ most_operations
+  pub few : length program.ops ≤ MOST_OPERATIONS
   pub numbers : AllHoldNumbers program.ops

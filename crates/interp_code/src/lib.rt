@@ -6,7 +6,6 @@ mod line;
 pub mod machine;
 mod operation;
 pub mod program;
-mod range;
 pub mod read;
 mod reader;
 mod word;

@@ -96,9 +96,15 @@ fn head_with_one<'a>(word: &[u8], a: &'a [u8]) -> Option<Line<'a>>
     if is_word(word, "LDint") {
         magic(a)
     } else if is_word(word, "cycle") {
-        Some(Line::Cycle(number_to(999_999_999, a)?))
+        match number_to(999_999_999, a) {
+            Some(cycle) => Some(Line::Cycle(cycle)),
+            None => None,
+        }
     } else if is_word(word, "bits") {
-        Some(Line::BitCount(number_to(u32::MAX, a)?))
+        match number_to(u32::MAX, a) {
+            Some(count) => Some(Line::BitCount(count)),
+            None => None,
+        }
     } else {
         name_line(word, a)
     }
@@ -108,15 +114,30 @@ fn name_line<'a>(word: &[u8], a: &'a [u8]) -> Option<Line<'a>>
     ensures { option_map said result ≡ spec.name_line word.now a.now }
 {
     if is_word(word, "input") {
-        Some(Line::Input(name(a)?))
+        match name(a) {
+            Some(name) => Some(Line::Input(name)),
+            None => None,
+        }
     } else if is_word(word, "output") {
-        Some(Line::Output(name(a)?))
+        match name(a) {
+            Some(name) => Some(Line::Output(name)),
+            None => None,
+        }
     } else if is_word(word, "analog") {
-        Some(Line::Analog(name(a)?))
+        match name(a) {
+            Some(name) => Some(Line::Analog(name)),
+            None => None,
+        }
     } else if is_word(word, "relay") {
-        Some(Line::Relay(name(a)?))
+        match name(a) {
+            Some(name) => Some(Line::Relay(name)),
+            None => None,
+        }
     } else if is_word(word, "persist") {
-        Some(Line::Persistent(name(a)?))
+        match name(a) {
+            Some(name) => Some(Line::Persistent(name)),
+            None => None,
+        }
     } else {
         None
     }
@@ -126,8 +147,10 @@ fn head_with_two<'a>(word: &[u8], a: &'a [u8], b: &[u8]) -> Option<Line<'a>>
     ensures { option_map said result ≡ spec.head_with_two word.now a.now b.now }
 {
     if is_word(word, "var") {
-        let (name, start) = (name(a)?, integer(b)?);
-        Some(Line::Variable(name, start))
+        match name(a).zip(integer(b)) {
+            Some((name, start)) => Some(Line::Variable(name, start)),
+            None => None,
+        }
     } else {
         None
     }

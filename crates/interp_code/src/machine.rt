@@ -15,7 +15,7 @@ use std::alloc::{AllocError, Global};
 use std::marker::Model;
 
 /// A program that a text says, with its names, and its state between cycles.
-#[derive(Debug, Drop)]
+#[derive(Drop)]
 pub struct Interp {
     names: Names,
     sim: Sim,

@@ -9,11 +9,9 @@ ghost use Rattle.int_code.specs.WellFormed.{most_values};
 use crate::word::{
     dest_of, index, integer, is_word, number_of, number_to, source_of, values_of, variable_of,
 };
+use int_code::limits::MOST_VALUES;
 use int_code::op::{BitDest, BitSource, IntOp, NumSource};
 use std::alloc::{AllocError, Global};
-
-/// How many values a table may have.
-pub const MOST_VALUES: u32 = 60;
 
 /// An operation of one word.
 pub fn op_alone(word: &[u8]) -> Option<IntOp>
@@ -33,11 +31,20 @@ pub fn op_with_one(word: &[u8], a: &[u8]) -> Option<IntOp>
     ensures { result ≡ spec.op_with_one word.now a.now }
 {
     if is_word(word, "set") {
-        Some(IntOp::Set { b: dest_of(a)? })
+        match dest_of(a) {
+            Some(b) => Some(IntOp::Set { b }),
+            None => None,
+        }
     } else if is_word(word, "clr") {
-        Some(IntOp::Clr { b: dest_of(a)? })
+        match dest_of(a) {
+            Some(b) => Some(IntOp::Clr { b }),
+            None => None,
+        }
     } else if is_word(word, "eebusy") {
-        Some(IntOp::Eebusy { b: dest_of(a)? })
+        match dest_of(a) {
+            Some(b) => Some(IntOp::Eebusy { b }),
+            None => None,
+        }
     } else {
         source_or_variable_op(word, a)
     }
@@ -48,13 +55,25 @@ fn source_or_variable_op(word: &[u8], a: &[u8]) -> Option<IntOp>
     ensures { result ≡ spec.source_or_variable_op word.now a.now }
 {
     if is_word(word, "ifs") {
-        Some(IntOp::Ifs { s: source_of(a)? })
+        match source_of(a) {
+            Some(s) => Some(IntOp::Ifs { s }),
+            None => None,
+        }
     } else if is_word(word, "ifc") {
-        Some(IntOp::Ifc { s: source_of(a)? })
+        match source_of(a) {
+            Some(s) => Some(IntOp::Ifc { s }),
+            None => None,
+        }
     } else if is_word(word, "inc") {
-        Some(IntOp::Inc { v: variable_of(a)? })
+        match variable_of(a) {
+            Some(v) => Some(IntOp::Inc { v }),
+            None => None,
+        }
     } else if is_word(word, "dec") {
-        Some(IntOp::Dec { v: variable_of(a)? })
+        match variable_of(a) {
+            Some(v) => Some(IntOp::Dec { v }),
+            None => None,
+        }
     } else {
         None
     }
@@ -65,17 +84,25 @@ pub fn op_with_two(word: &[u8], a: &[u8], b: &[u8]) -> Option<IntOp>
     ensures { result ≡ spec.op_with_two word.now a.now b.now }
 {
     if is_word(word, "cpy") {
-        let (b, s) = dest_and_source(a, b)?;
-        Some(IntOp::Cpy { b, s })
+        match dest_and_source(a, b) {
+            Some((b, s)) => Some(IntOp::Cpy { b, s }),
+            None => None,
+        }
     } else if is_word(word, "not") {
-        let (b, s) = dest_and_source(a, b)?;
-        Some(IntOp::Not { b, s })
+        match dest_and_source(a, b) {
+            Some((b, s)) => Some(IntOp::Not { b, s }),
+            None => None,
+        }
     } else if is_word(word, "iflt") {
-        let (w, u) = two_numbers(a, b)?;
-        Some(IntOp::Iflt { w, u })
+        match two_numbers(a, b) {
+            Some((w, u)) => Some(IntOp::Iflt { w, u }),
+            None => None,
+        }
     } else if is_word(word, "ifeq") {
-        let (w, u) = two_numbers(a, b)?;
-        Some(IntOp::Ifeq { w, u })
+        match two_numbers(a, b) {
+            Some((w, u)) => Some(IntOp::Ifeq { w, u }),
+            None => None,
+        }
     } else {
         variable_op(word, a, b)
     }
@@ -86,14 +113,20 @@ fn variable_op(word: &[u8], a: &[u8], b: &[u8]) -> Option<IntOp>
     ensures { result ≡ spec.variable_op word.now a.now b.now }
 {
     if is_word(word, "lit") {
-        let (v, n) = variable_and_integer(a, b)?;
-        Some(IntOp::Lit { v, n })
+        match variable_and_integer(a, b) {
+            Some((v, n)) => Some(IntOp::Lit { v, n }),
+            None => None,
+        }
     } else if is_word(word, "mov") {
-        let (v, from) = two_variables(a, b)?;
-        Some(IntOp::Mov { v, from })
+        match two_variables(a, b) {
+            Some((v, from)) => Some(IntOp::Mov { v, from }),
+            None => None,
+        }
     } else if is_word(word, "ifee") {
-        let (v, a) = variable_and_index(a, b)?;
-        Some(IntOp::Ifee { v, a })
+        match variable_and_index(a, b) {
+            Some((v, a)) => Some(IntOp::Ifee { v, a }),
+            None => None,
+        }
     } else {
         device_op(word, a, b)
     }
@@ -104,20 +137,30 @@ fn device_op(word: &[u8], a: &[u8], b: &[u8]) -> Option<IntOp>
     ensures { result ≡ spec.device_op word.now a.now b.now }
 {
     if is_word(word, "adc") {
-        let (v, k) = variable_and_index(a, b)?;
-        Some(IntOp::Adc { v, k })
+        match variable_and_index(a, b) {
+            Some((v, k)) => Some(IntOp::Adc { v, k }),
+            None => None,
+        }
     } else if is_word(word, "eerd") {
-        let (v, a) = variable_and_index(a, b)?;
-        Some(IntOp::Eerd { v, a })
+        match variable_and_index(a, b) {
+            Some((v, a)) => Some(IntOp::Eerd { v, a }),
+            None => None,
+        }
     } else if is_word(word, "eewr") {
-        let (w, a) = number_and_index(a, b)?;
-        Some(IntOp::Eewr { w, a })
+        match number_and_index(a, b) {
+            Some((w, a)) => Some(IntOp::Eewr { w, a }),
+            None => None,
+        }
     } else if is_word(word, "pwm") {
-        let (w, hz) = number_and_hertz(a, b)?;
-        Some(IntOp::Pwm { w, hz })
+        match number_and_hertz(a, b) {
+            Some((w, hz)) => Some(IntOp::Pwm { w, hz }),
+            None => None,
+        }
     } else if is_word(word, "rx") {
-        let (v, b) = variable_and_dest(a, b)?;
-        Some(IntOp::Rx { v, b })
+        match variable_and_dest(a, b) {
+            Some((v, b)) => Some(IntOp::Rx { v, b }),
+            None => None,
+        }
     } else {
         None
     }
@@ -128,20 +171,30 @@ fn op_with_three(word: &[u8], a: &[u8], b: &[u8], c: &[u8]) -> Option<IntOp>
     ensures { result ≡ spec.op_with_three word.now a.now b.now c.now }
 {
     if is_word(word, "add") {
-        let (v, w, u) = computed(a, b, c)?;
-        Some(IntOp::Add { v, w, u })
+        match computed(a, b, c) {
+            Some((v, w, u)) => Some(IntOp::Add { v, w, u }),
+            None => None,
+        }
     } else if is_word(word, "sub") {
-        let (v, w, u) = computed(a, b, c)?;
-        Some(IntOp::Sub { v, w, u })
+        match computed(a, b, c) {
+            Some((v, w, u)) => Some(IntOp::Sub { v, w, u }),
+            None => None,
+        }
     } else if is_word(word, "mul") {
-        let (v, w, u) = computed(a, b, c)?;
-        Some(IntOp::Mul { v, w, u })
+        match computed(a, b, c) {
+            Some((v, w, u)) => Some(IntOp::Mul { v, w, u }),
+            None => None,
+        }
     } else if is_word(word, "div") {
-        let (v, w, u) = computed(a, b, c)?;
-        Some(IntOp::Div { v, w, u })
+        match computed(a, b, c) {
+            Some((v, w, u)) => Some(IntOp::Div { v, w, u }),
+            None => None,
+        }
     } else if is_word(word, "tx") {
-        let (w, s, b) = sending(a, b, c)?;
-        Some(IntOp::Tx { w, s, b })
+        match sending(a, b, c) {
+            Some((w, s, b)) => Some(IntOp::Tx { w, s, b }),
+            None => None,
+        }
     } else {
         None
     }
@@ -150,69 +203,69 @@ fn op_with_three(word: &[u8], a: &[u8], b: &[u8], c: &[u8]) -> Option<IntOp>
 fn dest_and_source(a: &[u8], b: &[u8]) -> Option<(BitDest, BitSource)>
     ensures { result ≡ both (spec.dest_of a.now) (spec.source_of b.now) }
 {
-    Some((dest_of(a)?, source_of(b)?))
+    dest_of(a).zip(source_of(b))
 }
 
 fn two_numbers(a: &[u8], b: &[u8]) -> Option<(NumSource, NumSource)>
     ensures { result ≡ both (spec.number_of a.now) (spec.number_of b.now) }
 {
-    Some((number_of(a)?, number_of(b)?))
+    number_of(a).zip(number_of(b))
 }
 
 fn two_variables(a: &[u8], b: &[u8]) -> Option<(u32, u32)>
     ensures { result ≡ both (spec.variable_of a.now) (spec.variable_of b.now) }
 {
-    Some((variable_of(a)?, variable_of(b)?))
+    variable_of(a).zip(variable_of(b))
 }
 
 fn variable_and_integer(a: &[u8], b: &[u8]) -> Option<(u32, i16)>
     ensures { result ≡ both (spec.variable_of a.now) (spec.integer b.now) }
 {
-    Some((variable_of(a)?, integer(b)?))
+    variable_of(a).zip(integer(b))
 }
 
 fn variable_and_index(a: &[u8], b: &[u8]) -> Option<(u32, u32)>
     ensures { result ≡ both (spec.variable_of a.now) (spec.index b.now) }
 {
-    Some((variable_of(a)?, index(b)?))
+    variable_of(a).zip(index(b))
 }
 
 fn variable_and_dest(a: &[u8], b: &[u8]) -> Option<(u32, BitDest)>
     ensures { result ≡ both (spec.variable_of a.now) (spec.dest_of b.now) }
 {
-    Some((variable_of(a)?, dest_of(b)?))
+    variable_of(a).zip(dest_of(b))
 }
 
 fn number_and_index(a: &[u8], b: &[u8]) -> Option<(NumSource, u32)>
     ensures { result ≡ both (spec.number_of a.now) (spec.index b.now) }
 {
-    Some((number_of(a)?, index(b)?))
+    number_of(a).zip(index(b))
 }
 
 fn number_and_hertz(a: &[u8], b: &[u8]) -> Option<(NumSource, u32)>
     ensures { result ≡ both (spec.number_of a.now) (spec.number_to spec.most_count b.now) }
 {
-    Some((number_of(a)?, number_to(u32::MAX, b)?))
+    number_of(a).zip(number_to(u32::MAX, b))
 }
 
 /// A variable and the two numbers that its new value is computed from.
 fn computed(a: &[u8], b: &[u8], c: &[u8]) -> Option<(u32, NumSource, NumSource)>
     ensures { result ≡ all_three (spec.variable_of a.now) (spec.number_of b.now) (spec.number_of c.now) }
 {
-    let v = variable_of(a)?;
-    let w = number_of(b)?;
-    let u = number_of(c)?;
-    Some((v, w, u))
+    match (variable_of(a), number_of(b), number_of(c)) {
+        (Some(v), Some(w), Some(u)) => Some((v, w, u)),
+        _ => None,
+    }
 }
 
 /// The byte that is sent, the bit that asks for it, and the bit that tells whether the line is busy.
 fn sending(a: &[u8], b: &[u8], c: &[u8]) -> Option<(NumSource, BitSource, BitDest)>
     ensures { result ≡ all_three (spec.number_of a.now) (spec.source_of b.now) (spec.dest_of c.now) }
 {
-    let w = number_of(a)?;
-    let s = source_of(b)?;
-    let b = dest_of(c)?;
-    Some((w, s, b))
+    match (number_of(a), source_of(b), dest_of(c)) {
+        (Some(w), Some(s), Some(b)) => Some((w, s, b)),
+        _ => None,
+    }
 }
 
 /// An operation of four words or more. Behind the first four stand the words of `behind`.
@@ -262,8 +315,9 @@ fn table(
 fn table_head(a: &[u8], b: &[u8], count: &[u8]) -> Option<(u32, NumSource, u32)>
     ensures { result ≡ all_three (spec.variable_of a.now) (spec.number_of b.now) (spec.number_to most_values count.now) }
 {
-    let v = variable_of(a)?;
-    let w = number_of(b)?;
-    let count = number_to(MOST_VALUES, count)?;
-    Some((v, w, count))
+    let most = MOST_VALUES as u32;
+    match (variable_of(a), number_of(b), number_to(most, count)) {
+        (Some(v), Some(w), Some(count)) => Some((v, w, count)),
+        _ => None,
+    }
 }

@@ -8,7 +8,7 @@ use ladder_tree::names::Names;
 /// A text does not tell memories from other bits, so `names.memories` is 0 and all bits are kept.
 /// `code_line` is the number of the line `code`, counted from 1: operation k, counted from 0,
 /// stands k + 1 lines behind it.
-#[derive(Debug, Drop)]
+#[derive(Drop)]
 pub struct InterpProgram {
     pub cycle: u32,
     pub names: Names,

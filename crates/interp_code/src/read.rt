@@ -1,28 +1,28 @@
 //! Reading a text.
 
 ghost use Rattle.std.specs.Prelude.{◌≡◌, ◌⊎◌, ◌+◌, ◌-◌, ◌≤◌, ◌<◌, ◌^◌, ◌++◌, true, false, length, IfOk, IfErr, IfSome, IfNone, OnOk};
+ghost use Rattle.texts.specs.Keys.{keys_of};
 ghost use Rattle.texts.specs.Lines.{lines};
 ghost use Rattle.texts.specs.declared.limits.TheConstants.{CODE_BYTES};
 ghost use Rattle.interp_code.specs.Program.{IsProgram, IsWritable};
 ghost use Rattle.interp_code.specs.Machine.{IsRunnable};
 ghost use Rattle.interp_code.specs.Caused.{IsCaused};
-ghost use Rattle.interp_code.specs.Draft.{is_ended, names_of, no_names, start};
+ghost use Rattle.interp_code.specs.Draft.{is_ended, no_names, start};
 ghost use Rattle.interp_code.specs.Held.{draft, name_count, program_of};
 ghost use Rattle.interp_code.specs.Outcome.{IsOutcome};
 
 use crate::program::InterpProgram;
-use crate::reader::{NameSet, Reader, Stage};
+use crate::reader::{Reader, Stage};
+use int_code::limits::MOST_OPERATIONS;
 use int_code::op::{IntProgram, Ops};
 use ladder_tree::element::{Name, Nums};
 use ladder_tree::names::{NameList, Names};
 use std::alloc::{AllocError, Global};
 use std::mem;
+use texts::keys::KeySet;
 use texts::limits::{CODE_BYTES, judged};
 use texts::lines::split_line;
 use thiserror::Error;
-
-/// How many operations a program may have.
-const MOST_OPERATIONS: usize = 1_000_000;
 
 /// The line at which a text is refused, counted from 1: the first with which no text of a program
 /// goes on, or that passes a limit. A text that ends too early is refused behind its last line.
@@ -201,8 +201,8 @@ fn copy_all_names(names: &mut Names, alloc: Global, reader: &Reader<'_>) -> Resu
 }
 
 /// Appends copies of names.
-fn copy_names(list: &mut NameList, alloc: Global, names: &NameSet<'_>) -> Result<(), AllocError>
-    ensures { OnOk result (list.new ≡ list.old ++ names_of names.now) }
+fn copy_names(list: &mut NameList, alloc: Global, names: &KeySet<'_>) -> Result<(), AllocError>
+    ensures { OnOk result (list.new ≡ list.old ++ keys_of names.now) }
 {
     for name in names.as_slice() {
         list.push(Name::from_vec(Vec::from_slice(alloc, name)?))?;

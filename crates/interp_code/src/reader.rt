@@ -1,27 +1,22 @@
 //! What is read of a text, line by line.
 
 ghost use Rattle.std.specs.Prelude.{◌≡◌, IfOk, reverse};
-ghost use Rattle.std.specs.List.{list_any};
-ghost use Rattle.std.specs.Str.{bytes_eq};
+ghost use Rattle.texts.specs.Keys.{Takes};
 ghost use Rattle.interp_code.specs.declared.reader.Stage.TheVariants as stage;
 ghost use Rattle.interp_code.specs.Said.{said};
 ghost use Rattle.interp_code.specs.Line.{Input, Output, Analog, Variable, Relay, Persistent, BitCount, Operation, End};
 ghost use Rattle.interp_code.specs.Program.{are_in};
-ghost use Rattle.interp_code.specs.Draft.{Takes, ifs_behind, with_name, names_of, sizes, start, step, step_at, step_kept, step_line};
-ghost use Rattle.interp_code.specs.Held.{draft, counted};
+ghost use Rattle.interp_code.specs.Draft as draft_of;
+ghost use Rattle.interp_code.specs.Draft.{ifs_behind, sizes, start, step, step_at, step_kept, step_line};
+ghost use Rattle.interp_code.specs.Held.{draft};
 
 use crate::line::{Line, line_of};
-use crate::range::{Counts, is_in_range};
-use indexmap::IndexSet;
+use int_code::limits::{MOST_BITS, MOST_PERSISTENT};
 use int_code::op::{IntOp, Ops, Shape};
+use int_code::range::{Counts, is_in_range};
 use ladder_tree::element::Nums;
 use std::alloc::{AllocError, Global};
-
-/// How many bits a program may have.
-const MOST_BITS: u32 = 100_000;
-
-/// How many persistent variables a program may have.
-const MOST_PERSISTENT: usize = 256;
+use texts::keys::{KeySet, add_key, has_key};
 
 /// Which lines may come next.
 #[derive(Clone, Copy)]
@@ -42,22 +37,19 @@ pub enum Stage {
     Ended,
 }
 
-/// Names in the order in which they came, each once. They are parts of the text.
-pub type NameSet<'a> = IndexSet<&'a [u8]>;
-
-/// What was read so far.
+/// What was read so far. Names are parts of the text, in the order in which they came, each once.
 #[derive(Drop)]
 pub struct Reader<'a> {
     pub stage: Stage,
     pub cycle: u32,
-    pub inputs: NameSet<'a>,
-    pub outputs: NameSet<'a>,
-    pub analogs: NameSet<'a>,
-    pub variables: NameSet<'a>,
+    pub inputs: KeySet<'a>,
+    pub outputs: KeySet<'a>,
+    pub analogs: KeySet<'a>,
+    pub variables: KeySet<'a>,
     /// A start value for each variable.
     pub starts: Nums,
-    pub relays: NameSet<'a>,
-    pub persistent: NameSet<'a>,
+    pub relays: KeySet<'a>,
+    pub persistent: KeySet<'a>,
     pub bits: u32,
     pub ops: Ops,
     /// For each open if, the innermost last, whether it had its `els`.
@@ -71,13 +63,13 @@ impl<'a> Reader<'a> {
         Reader {
             stage: Stage::Start,
             cycle: 0,
-            inputs: IndexSet::new(alloc),
-            outputs: IndexSet::new(alloc),
-            analogs: IndexSet::new(alloc),
-            variables: IndexSet::new(alloc),
+            inputs: KeySet::new(alloc),
+            outputs: KeySet::new(alloc),
+            analogs: KeySet::new(alloc),
+            variables: KeySet::new(alloc),
             starts: Nums::new(alloc),
-            relays: IndexSet::new(alloc),
-            persistent: IndexSet::new(alloc),
+            relays: KeySet::new(alloc),
+            persistent: KeySet::new(alloc),
             bits: 0,
             ops: Ops::new(alloc),
             ifs: Vec::new(alloc),
@@ -185,7 +177,7 @@ impl<'a> Reader<'a> {
         if self.outputs.len() != 0 || self.analogs.len() != 0 || self.variables.len() != 0 {
             return Ok(false);
         }
-        add_name(&mut self.inputs, name)
+        add_key(&mut self.inputs, name)
     }
 
     fn take_output(&mut self, name: &'a [u8]) -> Result<bool, AllocError>
@@ -194,7 +186,7 @@ impl<'a> Reader<'a> {
         if self.analogs.len() != 0 || self.variables.len() != 0 {
             return Ok(false);
         }
-        add_name(&mut self.outputs, name)
+        add_key(&mut self.outputs, name)
     }
 
     fn take_analog(&mut self, name: &'a [u8]) -> Result<bool, AllocError>
@@ -203,13 +195,13 @@ impl<'a> Reader<'a> {
         if self.variables.len() != 0 {
             return Ok(false);
         }
-        add_name(&mut self.analogs, name)
+        add_key(&mut self.analogs, name)
     }
 
     fn take_variable(&mut self, name: &'a [u8], start: i16) -> Result<bool, AllocError>
         ensures { IfOk result (λ ok. Takes (step_at stage.Named (draft self.old) (Variable name.now start)) ok (draft self.new)) }
     {
-        if !add_name(&mut self.variables, name)? {
+        if !add_key(&mut self.variables, name)? {
             return Ok(false);
         }
         self.starts.push(start)?;
@@ -221,7 +213,7 @@ impl<'a> Reader<'a> {
         ensures { result ≡ are_in (draft self.now).names.variables (draft self.now).names.analog }
     {
         for name in self.analogs.as_slice() {
-            if !has_name(&self.variables, name) {
+            if !has_key(&self.variables, name) {
                 return false;
             }
         }
@@ -235,17 +227,17 @@ impl<'a> Reader<'a> {
             return Ok(false);
         }
         self.stage = Stage::Kept;
-        add_name(&mut self.relays, name)
+        add_key(&mut self.relays, name)
     }
 
     fn take_persistent(&mut self, name: &'a [u8]) -> Result<bool, AllocError>
         ensures { IfOk result (λ ok. Takes (step_kept (draft self.old) (Persistent name.now)) ok (draft self.new)) }
     {
-        if !has_name(&self.variables, name) || self.persistent.len() >= MOST_PERSISTENT {
+        if !has_key(&self.variables, name) || self.persistent.len() >= MOST_PERSISTENT as usize {
             return Ok(false);
         }
         self.stage = Stage::Kept;
-        add_name(&mut self.persistent, name)
+        add_key(&mut self.persistent, name)
     }
 
     fn take_bits(&mut self, bits: u32) -> bool
@@ -262,14 +254,12 @@ impl<'a> Reader<'a> {
     fn add_operation(&mut self, op: IntOp) -> Result<bool, AllocError>
         ensures { IfOk result (λ ok. Takes (step_at stage.Coded (draft self.old) (Operation op)) ok (draft self.new)) }
     {
-        if !is_in_range(self.counts(), &op) {
-            return Ok(false);
+        if self.has_range(&op) && nest(&mut self.ifs, op.shape())? {
+            self.ops.push(op)?;
+            Ok(true)
+        } else {
+            Ok(false)
         }
-        if !nest(&mut self.ifs, op.shape())? {
-            return Ok(false);
-        }
-        self.ops.push(op)?;
-        Ok(true)
     }
 
     fn take_end(&mut self) -> bool
@@ -282,32 +272,21 @@ impl<'a> Reader<'a> {
         true
     }
 
-    fn counts(&self) -> Counts
-        ensures { counted result ≡ sizes (draft self.now) }
+    /// Whether an operation names only what was read.
+    #[tactic(auto, using(crate::proofs::RangeTests::same_test))]
+    fn has_range(&self, op: &IntOp) -> bool
+        ensures { result ≡ draft_of.is_in_range (sizes (draft self.now)) op.now }
     {
-        Counts {
-            bits: self.bits,
+        let counts = Counts {
+            bits: self.bits as usize,
             outputs: self.outputs.len(),
             inputs: self.inputs.len(),
             analogs: self.analogs.len(),
             variables: self.variables.len(),
             persistent: self.persistent.len(),
-        }
+        };
+        is_in_range(counts, op)
     }
-}
-
-/// Adds a name, and says whether it is new.
-fn add_name<'a>(names: &mut NameSet<'a>, name: &'a [u8]) -> Result<bool, AllocError>
-    ensures { IfOk result (λ ok. Takes (with_name name.now (names_of names.old)) ok (names_of names.new)) }
-{
-    Ok(names.insert(name)?)
-}
-
-/// Whether the name is one of these.
-fn has_name(names: &NameSet<'_>, name: &[u8]) -> bool
-    ensures { result ≡ list_any (bytes_eq name.now) (names_of names.now) }
-{
-    names.contains(name)
 }
 
 /// Opens or closes an if, or takes its `els`. It says whether an operation of this shape may come.

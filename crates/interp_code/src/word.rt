@@ -37,10 +37,9 @@ pub fn is_word(bytes: &[u8], word: &str) -> bool
 pub fn dest_of(word: &[u8]) -> Option<BitDest>
     ensures { result ≡ spec.dest_of word.now }
 {
-    let (letter, number) = word.split_first()?;
-    match letter {
-        b'b' => Some(BitDest::B(index(number)?)),
-        b'y' => Some(BitDest::Y(index(number)?)),
+    match word.split_first() {
+        Some((b'b', number)) => index(number).map(BitDest::B),
+        Some((b'y', number)) => index(number).map(BitDest::Y),
         _ => None,
     }
 }
@@ -49,11 +48,10 @@ pub fn dest_of(word: &[u8]) -> Option<BitDest>
 pub fn source_of(word: &[u8]) -> Option<BitSource>
     ensures { result ≡ spec.source_of word.now }
 {
-    let (letter, number) = word.split_first()?;
-    match letter {
-        b'b' => Some(BitSource::B(index(number)?)),
-        b'x' => Some(BitSource::X(index(number)?)),
-        b'y' => Some(BitSource::Y(index(number)?)),
+    match word.split_first() {
+        Some((b'b', number)) => index(number).map(BitSource::B),
+        Some((b'x', number)) => index(number).map(BitSource::X),
+        Some((b'y', number)) => index(number).map(BitSource::Y),
         _ => None,
     }
 }
@@ -62,9 +60,8 @@ pub fn source_of(word: &[u8]) -> Option<BitSource>
 pub fn variable_of(word: &[u8]) -> Option<u32>
     ensures { result ≡ spec.variable_of word.now }
 {
-    let (letter, number) = word.split_first()?;
-    match letter {
-        b'v' => index(number),
+    match word.split_first() {
+        Some((b'v', number)) => index(number),
         _ => None,
     }
 }
@@ -73,10 +70,10 @@ pub fn variable_of(word: &[u8]) -> Option<u32>
 pub fn number_of(word: &[u8]) -> Option<NumSource>
     ensures { result ≡ spec.number_of word.now }
 {
-    let (letter, number) = word.split_first()?;
-    match letter {
-        b'v' => Some(NumSource::V(index(number)?)),
-        _ => Some(NumSource::N(integer(word)?)),
+    match word.split_first() {
+        Some((b'v', number)) => index(number).map(NumSource::V),
+        Some(_) => integer(word).map(NumSource::N),
+        None => None,
     }
 }
 
@@ -143,13 +140,16 @@ pub fn values_of(alloc: Global, count: u32, text: Option<&[u8]>) -> Result<Optio
 pub fn integer(word: &[u8]) -> Option<i16>
     ensures { result ≡ spec.integer word.now }
 {
-    let (sign, digits) = word.split_first()?;
-    if *sign == b'-' {
-        let size = digits_to(32768, digits)?;
-        Some((-(size as i32)) as i16)
-    } else {
-        let size = digits_to(32767, word)?;
-        Some(size as i16)
+    match word.split_first() {
+        Some((b'-', digits)) => match digits_to(32768, digits) {
+            Some(size) => Some((-(size as i32)) as i16),
+            None => None,
+        },
+        Some(_) => match digits_to(32767, word) {
+            Some(size) => Some(size as i16),
+            None => None,
+        },
+        None => None,
     }
 }
 
@@ -165,10 +165,9 @@ pub fn number_to(most: u32, word: &[u8]) -> Option<u32>
     ensures value { result ≡ number_to most word.now }
     ensures range { IfSome result (λ n. n ≤ most) }
 {
-    let (sign, digits) = word.split_first()?;
-    if *sign == b'-' {
-        digits_to(0, digits)
-    } else {
-        digits_to(most, word)
+    match word.split_first() {
+        Some((b'-', digits)) => digits_to(0, digits),
+        Some(_) => digits_to(most, word),
+        None => None,
     }
 }

@@ -32,18 +32,30 @@ pub fn write_interp(
     ensures text { IfOk result (λ t. t ≡ interp_text cycle names.now program.now) }
     ensures reads_back { IfOk result (λ t. IsProgram (lines t) (read_as cycle names.now program.now)) }
 {
-    // A read shows the proof that these are in a u32's range.
-    let _inputs = program.inputs;
-    let _outputs = program.outputs;
-    let _analogs = program.analogs;
-    let _variables = program.variables;
     let mut text = String::new(alloc);
-    push_head(&mut text, cycle)?;
-    push_all_names(&mut text, names, program.starts.as_slice())?;
-    push_sizes(&mut text, program.bits)?;
-    push_operations(&mut text, program.ops.as_slice())?;
-    text.push_str("end\n")?;
+    push_program(&mut text, cycle, names, program)?;
     Ok(List::from_vec(text.into_bytes()))
+}
+
+/// Appends all lines of a program's text.
+fn push_program(
+    text: &mut String,
+    cycle: u32,
+    names: &Names,
+    program: &IntProgram,
+) -> Result<(), AllocError>
+    requires { IsWritable cycle names.now program.now }
+    ensures text { OnOk result (string_bytes text.new ≡ string_bytes text.old ++ interp_text cycle names.now program.now) }
+    ensures reads_back { OnOk result (IsProgram (lines (interp_text cycle names.now program.now)) (read_as cycle names.now program.now)) }
+{
+    prove!(program.inputs <= u32::MAX && program.outputs <= u32::MAX);
+    prove!(program.analogs <= u32::MAX && program.variables <= u32::MAX);
+    push_head(text, cycle)?;
+    push_all_names(text, names, program.starts.as_slice())?;
+    push_sizes(text, program.bits)?;
+    push_operations(text, program.ops.as_slice())?;
+    text.push_str("end\n")?;
+    Ok(())
 }
 
 /// Appends the two lines in front of the names.

@@ -32,7 +32,9 @@ use Rattle.ladder_rules.specs.declared.cost.Column.TheVariants.{Ops}
 use Rattle.int_code.specs.Kinds as kind
 use Rattle.int_code.specs.Kinds.{Kind, kinds, kind_of, is_wire, reads_wire, ops_of, IsWithin}
 use Rattle.int_code.specs.Lowered as part
-use Rattle.int_code.specs.Lowered.{Part, Parallel, Branch, Element, part_kinds, element_kinds, coil_kinds, timer_kinds, counter_kinds, compare_kinds, where_kinds, move_kind, math_kind, rise_kinds, moves_kinds, branches, parts, parts_step, parts_in, parts_of_rungs, all_parts, allowed}
+use Rattle.int_code.specs.Lowered.{Part, Parallel, Branch, Element, part_kinds, element_kinds, coil_kinds, timer_kinds, counter_kinds, compare_kinds}
+use Rattle.int_code.specs.Lowered.{where_kinds, move_kind, math_kind, rise_kinds, moves_kinds, branches, parts, parts_step, parts_in, parts_of_rungs, all_parts}
+use Rattle.int_code.specs.Lowered.{allowed}
 use Rattle.int_code.specs.declared.op.IntOp.TheVariants as op
 use Rattle.int_code.specs.declared.op.IntOp.TheVariants.{Pwm, Rx, Tx, Eewr, Tab}
 use Rattle.int_code.specs.declared.op.IntOp.{IntOp}
@@ -56,10 +58,14 @@ three_more x xs n e f = sum_by-cons ops_of x xs ∙ omega (arith, e, f)
 -- the kinds tell how many operations there are
 kinds_count : (kept : ℕ) (ops : List IntOp) → sum_by ops_of (kinds kept ops) ≡ length ops
 kinds_count kept [] = refl
-kinds_count kept (op.Ifs s ∷ op.Set b ∷ op.Fi ∷ ops) = three_more (kind.Guarded (reads_wire kept s) (is_wire kept b)) (kinds kept ops) (length ops) refl (kinds_count kept ops)
-kinds_count kept (op.Ifs s ∷ op.Clr b ∷ op.Fi ∷ ops) = three_more (kind.Guarded (reads_wire kept s) (is_wire kept b)) (kinds kept ops) (length ops) refl (kinds_count kept ops)
-kinds_count kept (op.Ifc s ∷ op.Set b ∷ op.Fi ∷ ops) = three_more (kind.Guarded (reads_wire kept s) (is_wire kept b)) (kinds kept ops) (length ops) refl (kinds_count kept ops)
-kinds_count kept (op.Ifc s ∷ op.Clr b ∷ op.Fi ∷ ops) = three_more (kind.Guarded (reads_wire kept s) (is_wire kept b)) (kinds kept ops) (length ops) refl (kinds_count kept ops)
+kinds_count kept (op.Ifs s ∷ op.Set b ∷ op.Fi ∷ ops) =
+    three_more (kind.Guarded (reads_wire kept s) (is_wire kept b)) (kinds kept ops) (length ops) refl (kinds_count kept ops)
+kinds_count kept (op.Ifs s ∷ op.Clr b ∷ op.Fi ∷ ops) =
+    three_more (kind.Guarded (reads_wire kept s) (is_wire kept b)) (kinds kept ops) (length ops) refl (kinds_count kept ops)
+kinds_count kept (op.Ifc s ∷ op.Set b ∷ op.Fi ∷ ops) =
+    three_more (kind.Guarded (reads_wire kept s) (is_wire kept b)) (kinds kept ops) (length ops) refl (kinds_count kept ops)
+kinds_count kept (op.Ifc s ∷ op.Clr b ∷ op.Fi ∷ ops) =
+    three_more (kind.Guarded (reads_wire kept s) (is_wire kept b)) (kinds kept ops) (length ops) refl (kinds_count kept ops)
 kinds_count kept (x ∷ ops) = one_more (kind_of kept x) (kinds kept ops) (length ops) refl (kinds_count kept ops)
 
 abbrev count : List Kind → ℕ
@@ -108,7 +114,12 @@ shift_count : (places : ℕ) → count (rise_kinds (moves_kinds places)) ≤ 5 +
 shift_count places =
     let h = moves_count places in
     let tail : List Kind = kind.Fi ∷ kind.Fi ∷ kind.Cpy false true ∷ [] in
-    omega (arith, sum_by-cons ops_of (kind.Ifs true) (kind.Ifc false ∷ (moves_kinds places ++ tail)), sum_by-cons ops_of (kind.Ifc false) (moves_kinds places ++ tail), sum_by-append ops_of (moves_kinds places) tail)
+    omega (
+      arith,
+      sum_by-cons ops_of (kind.Ifs true) (kind.Ifc false ∷ (moves_kinds places ++ tail)),
+      sum_by-cons ops_of (kind.Ifc false) (moves_kinds places ++ tail),
+      sum_by-append ops_of (moves_kinds places) tail,
+    )
 
 -- the row of the table of costs is no less, nor is 65, which a shift register has
 record Counted (x : LeafKind) : Type 0 where
@@ -163,7 +174,9 @@ module _ (cycle : ℕ) where
       let x = h.0.within in let y = more.within in
       let both = weight_append (parts n) (parts_in ns) in
       record {
-        within = rw (joined-cons (parts n) (map parts ns)) (omega (arith, x, y, both, sum_by-cons (λ x. x) (node_cost Ops Interp n) (map (node_cost Ops Interp) ns)));
+        within =
+            rw (joined-cons (parts n) (map parts ns))
+            (omega (arith, x, y, both, sum_by-cons (λ x. x) (node_cost Ops Interp n) (map (node_cost Ops Interp) ns)));
         few = λ fit. (
             let f = h.0.few (fit_front cycle (leaves n) (leaves_in ns) fit) in
             let g = more.few (fit_back cycle (leaves n) (leaves_in ns) fit) in
@@ -197,7 +210,9 @@ module _ (cycle : ℕ) where
       let one : weight (Element l ∷ []) ≡ count (element_kinds l.kind) = ap count (append-nil (element_kinds l.kind)) in
       record {
         within = rw (fold-Leaf (List Part) parts_step l, fold-Leaf ℕ (cost_step Ops Interp) l, one) c.within;
-        few = rw (fold-Leaf (List Part) parts_step l, fold-Leaf ℕ size_step l, fold-Leaf (List leaf.Leaf) leaves_step l) (λ fit. let f = c.few cycle (fit_first cycle l [] fit) in omega (arith, f, one));
+        few =
+            rw (fold-Leaf (List Part) parts_step l, fold-Leaf ℕ size_step l, fold-Leaf (List leaf.Leaf) leaves_step l)
+            (λ fit. let f = c.few cycle (fit_first cycle l [] fit) in omega (arith, f, one));
       }
 
   series_node_counted : (ns : List Node) → Each NodeCounted ns → NodeCounted (Series ns)
@@ -205,7 +220,9 @@ module _ (cycle : ℕ) where
       let c = series_counted ns h in
       record {
         within = rw (fold-Series (List Part) parts_step ns, fold-Series ℕ (cost_step Ops Interp) ns) c.within;
-        few = rw (fold-Series (List Part) parts_step ns, fold-Series ℕ size_step ns, fold-Series (List leaf.Leaf) leaves_step ns) (λ fit. let f = c.few fit in omega (arith, f));
+        few =
+            rw (fold-Series (List Part) parts_step ns, fold-Series ℕ size_step ns, fold-Series (List leaf.Leaf) leaves_step ns)
+            (λ fit. let f = c.few fit in omega (arith, f));
       }
 
   parallel_counted : (ns : List Node) → Each NodeCounted ns → NodeCounted (node.Parallel ns)
@@ -214,8 +231,12 @@ module _ (cycle : ℕ) where
       let x = c.within in
       let one : weight (Parallel ∷ branches (map parts ns)) ≡ 2 + weight (branches (map parts ns)) = weight_append (Parallel ∷ []) (branches (map parts ns)) in
       record {
-        within = rw (fold-Parallel (List Part) parts_step ns, fold-Parallel ℕ (cost_step Ops Interp) ns) (omega (arith, x, one, length-map ns (node_cost Ops Interp)));
-        few = rw (fold-Parallel (List Part) parts_step ns, fold-Parallel ℕ size_step ns, fold-Parallel (List leaf.Leaf) leaves_step ns) (λ fit. let f = c.few fit in omega (arith, f, one));
+        within =
+            rw (fold-Parallel (List Part) parts_step ns, fold-Parallel ℕ (cost_step Ops Interp) ns)
+            (omega (arith, x, one, length-map ns (node_cost Ops Interp)));
+        few =
+            rw (fold-Parallel (List Part) parts_step ns, fold-Parallel ℕ size_step ns, fold-Parallel (List leaf.Leaf) leaves_step ns)
+            (λ fit. let f = c.few fit in omega (arith, f, one));
       }
 
   node_counted : (n : Node) → NodeCounted n
@@ -236,7 +257,8 @@ module _ (cycle : ℕ) where
       let more = rungs_counted gs in
       let x = nodes.within in let y = more.within in
       let both = weight_append (parts_in g.nodes) (parts_of_rungs gs) in
-      let one : weight (part.Rung ∷ (parts_in g.nodes ++ parts_of_rungs gs)) ≡ 2 + weight (parts_in g.nodes ++ parts_of_rungs gs) = weight_append (part.Rung ∷ []) (parts_in g.nodes ++ parts_of_rungs gs) in
+      let one : weight (part.Rung ∷ (parts_in g.nodes ++ parts_of_rungs gs)) ≡ 2 + weight (parts_in g.nodes ++ parts_of_rungs gs) = weight_append
+      (part.Rung ∷ []) (parts_in g.nodes ++ parts_of_rungs gs) in
       record {
         within = omega (arith, x, y, both, one);
         few = λ fit. (
@@ -255,7 +277,8 @@ within_cap kept ops gs is =
     omega (arith, h, c, one, kinds_count kept ops)
 
 -- nor more than 70 for each line that the rungs take
-pub within_lines : (kept cycle : ℕ) (ops : List IntOp) (gs : List rung.Rung) → IsWithin (kinds kept ops) (allowed gs) → all_fit cycle (all_leaves gs) ≡ true → length ops ≤ 70 * size_of_all gs + 1
+pub within_lines : (kept cycle : ℕ) (ops : List IntOp) (gs : List rung.Rung) → IsWithin (kinds kept ops) (allowed gs) → all_fit cycle (all_leaves gs) ≡ true
+    → length ops ≤ 70 * size_of_all gs + 1
 within_lines kept cycle ops gs is fit =
     let h = is ops_of in
     let c = (rungs_counted cycle gs).few fit in
@@ -298,4 +321,6 @@ element_tabs p (Table dest index as_text values) k = omega arith
 element_tabs p kind k = let h = no_tabs (element_code p kind k) (element_plain p kind k) in omega (arith, h)
 
 pub program_tabs : (p : Layout) (gs : List rung.Rung) → Ready p gs → tabs_in (program_code p gs) ≤ length (all_leaves gs)
-program_tabs p gs ready = program_holds p (nesting_of_all gs) FewTabs (tabs_shared p (nesting_of_all gs)) (λ l k a le. let h = element_tabs p l.kind k in omega (arith, h)) gs (omega arith) ready
+program_tabs p gs ready =
+    program_holds p (nesting_of_all gs) FewTabs (tabs_shared p (nesting_of_all gs)) (λ l k a le. let h = element_tabs p l.kind k in omega (arith, h)) gs
+    (omega arith) ready

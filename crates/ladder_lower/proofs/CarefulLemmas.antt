@@ -57,7 +57,8 @@ well_shared p deep = record {
   set_where = λ i j lt le. plain _ refl;
 }
 
-free_by : (d : Devices) (writing : Bool) (pending : Option Pending) → d.writing ≡ writing → d.pending ≡ pending → (d.writing || waits d.pending) ≡ false → (checked d).writing ≡ false
+free_by : (d : Devices) (writing : Bool) (pending : Option Pending) → d.writing ≡ writing → d.pending ≡ pending → (d.writing || waits d.pending) ≡ false
+    → (checked d).writing ≡ false
 free_by d true pending e f free = absurd (cc)
 free_by d false (Some b) e f free = absurd (let q : true ≡ false = rw (e, f) at free in cc)
 free_by d false None e f free = rw (e, f) refl
@@ -87,7 +88,8 @@ not_second true true f x o = absurd (cc)
 not_second false true f x o = absurd (cc)
 
 -- a check whose bit is false left the EEPROM not busy
-checked_free : (r : Reading) (k : ℕ) (m : Moment) → all_run m.ifs ≡ true → (step r (Eebusy (dest.B k)) m).store.bit k ≡ false → (step r (Eebusy (dest.B k)) m).store.devices.writing ≡ false
+checked_free : (r : Reading) (k : ℕ) (m : Moment) → all_run m.ifs ≡ true → (step r (Eebusy (dest.B k)) m).store.bit k ≡ false
+    → (step r (Eebusy (dest.B k)) m).store.devices.writing ≡ false
 checked_free r k m on answer = rw on (free m.store.devices (rw (on, same_bit k) at answer))
 
 -- a number is written where the check answered that the EEPROM is not busy
@@ -101,9 +103,12 @@ persist_well p name r m =
     let loaded = step r (Ifs (source.B (flag_bit p name))) inside in
     let same = step r (Ifee v a) loaded in
     let other = step r Els same in
-    let kept : other.store ≡ asked.store = still r Els same refl ∙ still r (Ifee v a) loaded refl ∙ still r (Ifs (source.B (flag_bit p name))) inside refl ∙ still r (Ifc (source.B (spare p))) asked refl in
+    let kept : other.store ≡ asked.store = still r Els same refl ∙ still r (Ifee v a) loaded refl ∙ still r (Ifs (source.B (flag_bit p name))) inside refl
+    ∙ still r (Ifc (source.B (spare p))) asked refl in
     let writes : is_reached (Eewr (V v) a) other.ifs ≡ true → other.store.devices.writing ≡ false =
-    λ o. ap (λ (t : Store). t.devices.writing) kept ∙ checked_free r (spare p) powered (on_first (all_run powered.ifs) (asked.store.bit (spare p)) _ _ o) (not_second (all_run powered.ifs) (asked.store.bit (spare p)) _ _ o) in
+    λ o. ap (λ (t : Store). t.devices.writing) kept
+    ∙ checked_free r (spare p) powered (on_first (all_run powered.ifs) (asked.store.bit (spare p)) _ _ o)
+    (not_second (all_run powered.ifs) (asked.store.bit (spare p)) _ _ o) in
     (λ o. tt, (λ o. tt, (λ o. tt, (λ o. tt, (λ o. tt, (λ o. tt, (writes, (λ o. tt, (λ o. tt, (λ o. tt, (λ o. tt, (λ o. tt, (λ o. tt, (λ o. tt, tt))))))))))))))
 
 element_well : (p : Layout) (kind : LeafKind) (k : ℕ) → RunsWell (element_code p kind k)
@@ -116,5 +121,6 @@ element_well p kind k = plain (element_code p kind k) (element_plain p kind k)
 
 pub program_careful : (p : Layout) (gs : List Rung) → Ready p gs → IsCareful (program_code p gs)
 program_careful p gs ready =
-    let well = program_holds p (nesting_of_all gs) (λ ls ops. RunsWell ops) (well_shared p (nesting_of_all gs)) (λ l k apt lt. element_well p l.kind k) gs (omega arith) ready in
+    let well = program_holds p (nesting_of_all gs) (λ ls ops. RunsWell ops) (well_shared p (nesting_of_all gs)) (λ l k apt lt. element_well p l.kind k) gs
+    (omega arith) ready in
     record { each = λ r t. well.each r (begin r t) }

@@ -46,7 +46,9 @@ module _ (p : Layout) where
 
   pub rungs_count_memories : (gs : List Rung) → memories_of p gs ≡ memories_in (all_leaves gs)
   rungs_count_memories [] = refl
-  rungs_count_memories (g ∷ gs) = let f = series_counts g.nodes (each_counts g.nodes) in let k = rungs_count_memories gs in omega (arith, memories_append (leaves_in g.nodes) (all_leaves gs))
+  rungs_count_memories (g ∷ gs) =
+      let f = series_counts g.nodes (each_counts g.nodes) in let k = rungs_count_memories gs in
+      omega (arith, memories_append (leaves_in g.nodes) (all_leaves gs))
 
 -- a tree has as many lines as elements, and more for its forms
 abbrev IsSized : Node → Type 0
@@ -54,7 +56,8 @@ IsSized n = length (leaves n) ≤ size_of n
 
 list_sized : (ns : List Node) → Each IsSized ns → length (leaves_in ns) ≤ sum (map size_of ns)
 list_sized [] h = omega arith
-list_sized (n ∷ ns) h = let f = h.0 in let k = list_sized ns h.1 in omega (arith, length-append (leaves n) (leaves_in ns), sum_by-cons (λ x. x) (size_of n) (map size_of ns))
+list_sized (n ∷ ns) h =
+    let f = h.0 in let k = list_sized ns h.1 in omega (arith, length-append (leaves n) (leaves_in ns), sum_by-cons (λ x. x) (size_of n) (map size_of ns))
 
 node_sized : (n : Node) → IsSized n
 node_sized = node_ind IsSized
@@ -68,7 +71,8 @@ each_sized (n ∷ ns) = (node_sized n, each_sized ns)
 
 pub rungs_sized : (gs : List Rung) → length (all_leaves gs) ≤ size_of_all gs
 rungs_sized [] = omega arith
-rungs_sized (g ∷ gs) = let f = list_sized g.nodes (each_sized g.nodes) in let k = rungs_sized gs in omega (arith, length-append (leaves_in g.nodes) (all_leaves gs))
+rungs_sized (g ∷ gs) =
+    let f = list_sized g.nodes (each_sized g.nodes) in let k = rungs_sized gs in omega (arith, length-append (leaves_in g.nodes) (all_leaves gs))
 
 -- PARALLELs stand in one another no deeper than all forms
 abbrev IsNested : Node → Type 0

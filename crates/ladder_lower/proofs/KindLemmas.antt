@@ -1,5 +1,6 @@
 -- The operations of each part are of the kinds that the public list has for it.
-use Rattle.std.proofs.Common.{◌≡◌, ℕ, zero, suc, ◌+◌, ◌<◌, ◌≤◌, Bool, true, false, cond, List, [], ◌∷◌, ◌++◌, ℤ, length, nat_le, refl, ap, subst, arith, append_assoc, append-nil}
+use Rattle.std.proofs.Common.{◌≡◌, ℕ, zero, suc, ◌+◌, ◌<◌, ◌≤◌, Bool, true, false, cond, List, [], ◌∷◌, ◌++◌, ℤ, length, nat_le, refl, ap, subst, arith}
+use Rattle.std.proofs.Common.{append_assoc, append-nil}
 use Rattle.std.proofs.lemmas.Bool.Decides.{nat_tests}
 use Rattle.std.proofs.lemmas.List.Concat.{flat_map-append}
 use Rattle.std.proofs.lemmas.List.Sums.{sum_by-append}
@@ -12,7 +13,9 @@ use Rattle.ladder_tree.specs.declared.element.CompareHow.{CompareHow}
 use Rattle.ladder_tree.specs.declared.element.CounterHow.TheVariants.{Ctu, Ctd, Ctc}
 use Rattle.ladder_tree.specs.declared.element.CounterHow.{CounterHow}
 use Rattle.ladder_tree.specs.declared.element.Leaf as leaf
-use Rattle.ladder_tree.specs.declared.element.LeafKind.TheVariants.{Contacts, Coil, Osr, Osf, Short, Open, MasterRelay, Placeholder, Comment, Timer, Counter, Reset, Move, Math, Compare, Shift, Table, ReadAdc, SetPwm, Recv, Send, Persist, Linear, Formatted}
+use Rattle.ladder_tree.specs.declared.element.LeafKind.TheVariants.{Contacts, Coil, Osr, Osf, Short, Open, MasterRelay, Placeholder, Comment, Timer, Counter}
+use Rattle.ladder_tree.specs.declared.element.LeafKind.TheVariants.{Reset, Move, Math, Compare, Shift, Table, ReadAdc, SetPwm, Recv, Send, Persist, Linear}
+use Rattle.ladder_tree.specs.declared.element.LeafKind.TheVariants.{Formatted}
 use Rattle.ladder_tree.specs.declared.element.LeafKind.{LeafKind}
 use Rattle.ladder_tree.specs.declared.element.MathHow.TheVariants as math
 use Rattle.ladder_tree.specs.declared.element.MathHow.{MathHow}
@@ -24,14 +27,16 @@ use Rattle.ladder_tree.specs.declared.project.Rung.{Rung}
 use Rattle.int_code.specs.Kinds as kind
 use Rattle.int_code.specs.Kinds.{Kind, kinds, is_wire, reads_wire, ops_of, IsWithin}
 use Rattle.int_code.specs.Lowered as part
-use Rattle.int_code.specs.Lowered.{Part, part_kinds, element_kinds, coil_kinds, timer_kinds, counter_kinds, compare_kinds, where_kinds, move_kind, math_kind, rise_kinds, moves_kinds, all_parts, allowed}
+use Rattle.int_code.specs.Lowered.{Part, part_kinds, element_kinds, coil_kinds, timer_kinds, counter_kinds, compare_kinds, where_kinds, move_kind, math_kind}
+use Rattle.int_code.specs.Lowered.{rise_kinds, moves_kinds, all_parts, allowed}
 use Rattle.int_code.specs.declared.op.BitDest.TheVariants as dest
 use Rattle.int_code.specs.declared.op.BitSource.TheVariants as source
 use Rattle.int_code.specs.declared.op.IntOp.TheVariants.{Set, Clr, Cpy, Ifs, Fi}
 use Rattle.int_code.specs.declared.op.IntOp.TheVariants as op
 use Rattle.int_code.specs.declared.op.IntOp.{IntOp}
 use Rattle.int_code.specs.declared.op.NumSource.{NumSource}
-use Rattle.ladder_lower.specs.ElementCode.{coil_code, contact_code, timer_code, on_rise, counter_code, where_power, move_op, math_op, compare_code, moves, element_code}
+use Rattle.ladder_lower.specs.ElementCode.{coil_code, contact_code, timer_code, on_rise, counter_code, where_power, move_op, math_op, compare_code, moves}
+use Rattle.ladder_lower.specs.ElementCode.{element_code}
 use Rattle.ladder_lower.specs.Nesting.{nesting_of_all}
 use Rattle.ladder_lower.specs.NodeCode.{join, rung_start_by, start_by, program_code}
 use Rattle.ladder_lower.specs.Wires.{dest_by, dest_of, source_by, source_of, number_of, memory_bit, flag_bit, wire, power, masters, wires}
@@ -71,7 +76,8 @@ module _ (p : Layout) where
   dest_kept : (name : List ℕ) → IsHeld p name → is_wire kept (dest_of p name) ≡ false
   dest_kept name = dest_kept_by (is_output name) name refl
 
-  source_kept_by : (x y : Bool) (name : List ℕ) → cond x (held p.inputs name) (cond y (held p.outputs name) (held p.relays name)) ≡ true → reads_wire kept (source_by x y p name) ≡ false
+  source_kept_by : (x y : Bool) (name : List ℕ) → cond x (held p.inputs name) (cond y (held p.outputs name) (held p.relays name)) ≡ true
+      → reads_wire kept (source_by x y p name) ≡ false
   source_kept_by true y name h = refl
   source_kept_by false true name h = refl
   source_kept_by false false name h = relay_kept name h
@@ -79,7 +85,8 @@ module _ (p : Layout) where
   abbrev Spells : List IntOp → List Kind → Type 0
   Spells ops ks = (rest : List IntOp) → kinds kept (ops ++ rest) ≡ ks ++ kinds kept rest
 
-  contact_spells : (neg : Bool) (name : List ℕ) → reads_wire kept (source_of p name) ≡ false → Spells (contact_code p neg name) (element_kinds (Contacts name neg))
+  contact_spells : (neg : Bool) (name : List ℕ) → reads_wire kept (source_of p name) ≡ false
+      → Spells (contact_code p neg name) (element_kinds (Contacts name neg))
   contact_spells true name h rest = rw (h, own 0) refl
   contact_spells false name h rest = rw (h, own 0) refl
 
@@ -117,7 +124,8 @@ module _ (p : Layout) where
   compare_spells Les w u rest = rw (own 0) refl
   compare_spells Leq w u rest = rw (own 0) refl
 
-  moves_spell : (name : List ℕ) (places : ℕ) (rest : List IntOp) → kinds kept (moves p name places ++ op.Fi ∷ rest) ≡ moves_kinds places ++ kinds kept (op.Fi ∷ rest)
+  moves_spell : (name : List ℕ) (places : ℕ) (rest : List IntOp)
+      → kinds kept (moves p name places ++ op.Fi ∷ rest) ≡ moves_kinds places ++ kinds kept (op.Fi ∷ rest)
   moves_spell name zero rest = refl
   moves_spell name (suc zero) rest = refl
   moves_spell name (suc (suc k)) rest = ap (λ ks. kind.Mov ∷ ks) (moves_spell name (suc k) rest)
@@ -159,9 +167,11 @@ module _ (p : Layout) where
 
   -- whatever the kinds cost and whatever stands behind
   abbrev Lists : List Part → List IntOp → Type 0
-  Lists xs ops = (cost : Kind → ℕ) (rest : List IntOp) → sum_by cost (kinds kept (ops ++ rest)) ≤ sum_by cost (flat_map part_kinds xs) + sum_by cost (kinds kept rest)
+  Lists xs ops =
+      (cost : Kind → ℕ) (rest : List IntOp) → sum_by cost (kinds kept (ops ++ rest)) ≤ sum_by cost (flat_map part_kinds xs) + sum_by cost (kinds kept rest)
 
-  lists : (xs : List Part) (ops : List IntOp) (ks : List Kind) → Spells ops ks → ((cost : Kind → ℕ) → sum_by cost ks ≤ sum_by cost (flat_map part_kinds xs)) → Lists xs ops
+  lists : (xs : List Part) (ops : List IntOp) (ks : List Kind) → Spells ops ks → ((cost : Kind → ℕ) → sum_by cost ks ≤ sum_by cost (flat_map part_kinds xs))
+      → Lists xs ops
   lists xs ops ks is few cost rest = rw (is rest, sum_by-append cost ks (kinds kept rest)) (let f = few cost in omega arith)
 
   both_list : (xs ys : List Part) (a b : List IntOp) → Lists xs a → Lists ys b → Lists (xs ++ ys) (a ++ b)
@@ -189,15 +199,23 @@ module _ (p : Layout) where
     rung = rung_lists;
     empty = lists (part.Parallel ∷ []) (Clr (dest.B (power p)) ∷ []) (kind.Clr true ∷ []) (λ rest. rw (own 0) refl) (λ cost. omega arith);
     only = λ cost rest. omega arith;
-    fork = λ d le. lists (part.Parallel ∷ []) (copies (wires p d) 0 ∷ []) (kind.Cpy true true ∷ []) (λ rest. rw (own 0, own (wires p d)) refl) (λ cost. omega arith);
+    fork =
+        λ d le. lists (part.Parallel ∷ []) (copies (wires p d) 0 ∷ []) (kind.Cpy true true ∷ []) (λ rest. rw (own 0, own (wires p d)) refl)
+        (λ cost. omega arith);
     alone = λ cost rest. omega arith;
-    first = λ d le. lists (part.Branch ∷ []) (copies (wires p d + 1) 0 ∷ copies 0 (wires p d) ∷ []) (kind.Cpy true true ∷ kind.Cpy true true ∷ []) (λ rest. rw (own 0, own (wires p d), own (wires p d + 1)) refl) (λ cost. omega arith);
-    between = λ d le. lists (part.Branch ∷ []) (join false p d ++ copies 0 (wires p d) ∷ []) (kind.Guarded true true ∷ kind.Cpy true true ∷ []) (λ rest. rw (own 0, own (wires p d), own (wires p d + 1)) refl) (λ cost. omega arith);
+    first =
+        λ d le. lists (part.Branch ∷ []) (copies (wires p d + 1) 0 ∷ copies 0 (wires p d) ∷ []) (kind.Cpy true true ∷ kind.Cpy true true ∷ [])
+        (λ rest. rw (own 0, own (wires p d), own (wires p d + 1)) refl) (λ cost. omega arith);
+    between =
+        λ d le. lists (part.Branch ∷ []) (join false p d ++ copies 0 (wires p d) ∷ []) (kind.Guarded true true ∷ kind.Cpy true true ∷ [])
+        (λ rest. rw (own 0, own (wires p d), own (wires p d + 1)) refl) (λ cost. omega arith);
     last = λ d le. lists (part.Branch ∷ []) (join true p d) (kind.Guarded true true ∷ []) (λ rest. rw (own 0, own (wires p d + 1)) refl) (λ cost. omega arith);
   }
 
   element_lists : (l : leaf.Leaf) (k : ℕ) → IsApt p l.kind → k + memories l.kind ≤ p.memories → Lists (part.Element l ∷ []) (element_code p l.kind k)
-  element_lists l k a le = lists (part.Element l ∷ []) (element_code p l.kind k) (element_kinds l.kind) (element_spells l.kind k a le) (λ cost. rw (append-nil (element_kinds l.kind)) (omega arith))
+  element_lists l k a le =
+      lists (part.Element l ∷ []) (element_code p l.kind k) (element_kinds l.kind) (element_spells l.kind k a le)
+      (λ cost. rw (append-nil (element_kinds l.kind)) (omega arith))
 
   -- the operations of a ladder are within the public list
   pub program_within : (gs : List Rung) → Ready p gs → IsWithin (kinds kept (program_code p gs)) (allowed gs)

@@ -11,7 +11,8 @@ use Rattle.ladder_tree.specs.declared.element.CoilMode.{CoilMode}
 use Rattle.ladder_tree.specs.declared.element.CoilMode.TheVariants as mode
 use Rattle.ladder_tree.specs.declared.element.Leaf as leaf
 use Rattle.ladder_tree.specs.declared.element.LeafKind.{LeafKind}
-use Rattle.ladder_tree.specs.declared.element.LeafKind.TheVariants.{Contacts, Coil, Osr, Osf, Open, MasterRelay, Timer, Counter, Reset, Move, Math, Compare, Shift, Table, ReadAdc, SetPwm, Recv, Send, Persist}
+use Rattle.ladder_tree.specs.declared.element.LeafKind.TheVariants.{Contacts, Coil, Osr, Osf, Open, MasterRelay, Timer, Counter, Reset, Move, Math, Compare}
+use Rattle.ladder_tree.specs.declared.element.LeafKind.TheVariants.{Shift, Table, ReadAdc, SetPwm, Recv, Send, Persist}
 use Rattle.ladder_tree.specs.declared.element.MathHow.{MathHow}
 use Rattle.ladder_tree.specs.declared.element.MathHow.TheVariants as math
 use Rattle.ladder_tree.specs.declared.element.Operand.{Operand}
@@ -25,7 +26,8 @@ use Rattle.int_code.specs.declared.op.IntOp.{IntOp}
 use Rattle.int_code.specs.declared.op.IntOp.TheVariants.{Iflt, Els, Fi, Lit, Inc, Dec}
 use Rattle.int_code.specs.declared.op.NumSource.{NumSource}
 use Rattle.int_code.specs.declared.op.NumSource.TheVariants.{V, N}
-use Rattle.ladder_lower.specs.ElementCode.{element_code, timer_code, counter_code, on_rise, reached, moves, move_op, math_op, compare_code, coil_code, contact_code}
+use Rattle.ladder_lower.specs.ElementCode.{element_code, timer_code, counter_code, on_rise, reached, moves, move_op, math_op, compare_code, coil_code}
+use Rattle.ladder_lower.specs.ElementCode.{contact_code}
 use Rattle.ladder_lower.specs.Fit.{is_fit_operand, is_fit, all_fit}
 use Rattle.int_code.specs.Literals.{is_number, IsNumber, HoldsNumber, HoldsNumbers, AllHoldNumbers}
 use Rattle.ladder_lower.specs.Nesting.{nesting_of_all}
@@ -120,7 +122,8 @@ module _ (p : Layout) where
   element_numbers (Counter how name max) k h = counter_numbers how _ max k h
   element_numbers (Reset name) k h = (tt, (none_is, (tt, tt)))
   element_numbers (Move dest src) k h = (tt, (move_numbers _ _ (operand_is src h), (tt, tt)))
-  element_numbers (Math how dest a b) k h = let f = both_true (is_fit_operand a) _ h in (tt, (math_numbers how _ _ _ (operand_is a f.0) (operand_is b f.1), (tt, tt)))
+  element_numbers (Math how dest a b) k h =
+      let f = both_true (is_fit_operand a) _ h in (tt, (math_numbers how _ _ _ (operand_is a f.0) (operand_is b f.1), (tt, tt)))
   element_numbers (Compare how a b) k h = let f = both_true (is_fit_operand a) _ h in compare_numbers how _ _ (operand_is a f.0) (operand_is b f.1)
   element_numbers (Shift name places) k h = rise_numbers k (moves p name places) (moves_numbers name places)
   element_numbers (Table dest index as_text values) k h =
@@ -147,7 +150,8 @@ module _ (p : Layout) where
   pub program_numbers : (gs : List Rung) → Ready p gs → AllHoldNumbers (program_code p gs)
   program_numbers gs ready =
       All-from_recursion HoldsNumbers (program_code p gs)
-      (program_holds p (nesting_of_all gs) (λ ls ops. AllNumbers ops) (shared (nesting_of_all gs)) (λ l k apt lt. element_numbers l.kind k apt.fit) gs (omega arith) ready)
+      (program_holds p (nesting_of_all gs) (λ ls ops. AllNumbers ops) (shared (nesting_of_all gs)) (λ l k apt lt. element_numbers l.kind k apt.fit) gs
+      (omega arith) ready)
 
 -- variables start at numbers of 16 bits
 
@@ -163,4 +167,5 @@ start_by_number cycle _ name n f h = h
 
 pub start_is_number : (cycle : ℕ) (ls : List leaf.Leaf) (name : List ℕ) → all_fit cycle ls ≡ true → IsNumber (start_number cycle ls name)
 start_is_number cycle [] name h = none_is
-start_is_number cycle (l ∷ ls) name h = let f = both_true (is_fit cycle l.kind) _ h in start_by_number cycle l.kind name _ f.0 (start_is_number cycle ls name f.1)
+start_is_number cycle (l ∷ ls) name h =
+    let f = both_true (is_fit cycle l.kind) _ h in start_by_number cycle l.kind name _ f.0 (start_is_number cycle ls name f.1)

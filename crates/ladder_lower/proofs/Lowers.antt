@@ -34,4 +34,5 @@ pub record Lowers (p : Layout) (r : Reading) (a : Part) (c : Piece) : Type 0 whe
   pub memories : c.memories ≡ a.memories
   -- in a branch that does not run, nothing is done
   pub asleep : (d k : ℕ) (m : Moment) → all_run m.ifs ≡ false → run r (c.code d k) m ≡ m
-  pub awake : (d k : ℕ) (m : Moment) (s : Now) → k + a.memories ≤ p.memories → all_run m.ifs ≡ true → Stands p s m.store → After p d m (run r (c.code d k) m) (a.run k s (m.store.bit (power p)))
+  pub awake : (d k : ℕ) (m : Moment) (s : Now) → k + a.memories ≤ p.memories → all_run m.ifs ≡ true → Stands p s m.store
+      → After p d m (run r (c.code d k) m) (a.run k s (m.store.bit (power p)))

@@ -1,5 +1,6 @@
 -- The lists of a project's names: each holds the names of its kind once, and all names that elements have.
-use Rattle.std.proofs.Common.{◌≡◌, ℕ, zero, suc, ◌+◌, ◌*◌, ◌<◌, ◌≤◌, ◌||◌, Bool, true, false, cond, List, [], ◌∷◌, ◌++◌, length, refl, ◌∙◌, subst, arith, length-append}
+use Rattle.std.proofs.Common.{◌≡◌, ℕ, zero, suc, ◌+◌, ◌*◌, ◌<◌, ◌≤◌, ◌||◌, Bool, true, false, cond, List, [], ◌∷◌, ◌++◌, length, refl, ◌∙◌, subst, arith}
+use Rattle.std.proofs.Common.{length-append}
 use Rattle.std.proofs.lemmas.Bool.Decides.{nat_tests}
 use Rattle.std.proofs.lemmas.List.Folds.{list_any-append}
 use Rattle.std.proofs.lemmas.Slice.Eq.{bytes_eq-Decides}
@@ -8,11 +9,13 @@ use Rattle.std.specs.List.{list_any}
 use Rattle.std.specs.Prelude.{slice_index_or, filter}
 use Rattle.std.specs.Str.{bytes_eq}
 use Rattle.ladder_tree.specs.Leaves.{all_leaves}
-use Rattle.ladder_tree.specs.Names.{is_input, is_output, is_relay, bit_names, operand_names, numbered_names, variable_names, analog_names, persistent_names, all_named, all_bits, firsts_from, firsts, names_of, memories, memories_in, has_kind, all_well_named}
+use Rattle.ladder_tree.specs.Names.{is_input, is_output, is_relay, bit_names, operand_names, numbered_names, variable_names, analog_names, persistent_names}
+use Rattle.ladder_tree.specs.Names.{all_named, all_bits, firsts_from, firsts, names_of, memories, memories_in, has_kind, all_well_named}
 use Rattle.ladder_tree.specs.declared.element.Operand.{Operand}
 use Rattle.ladder_tree.specs.declared.element.Operand.TheVariants.{Var, Num}
 use Rattle.ladder_tree.specs.declared.element.Leaf as leaf
-use Rattle.ladder_tree.specs.declared.element.LeafKind.TheVariants.{Contacts, Coil, MasterRelay, Osr, Osf, Counter, Move, Math, Compare, Shift, Table, ReadAdc, Persist, Linear}
+use Rattle.ladder_tree.specs.declared.element.LeafKind.TheVariants.{Contacts, Coil, MasterRelay, Osr, Osf, Counter, Move, Math, Compare, Shift, Table, ReadAdc}
+use Rattle.ladder_tree.specs.declared.element.LeafKind.TheVariants.{Persist, Linear}
 use Rattle.ladder_tree.specs.declared.element.LeafKind.{LeafKind}
 use Rattle.ladder_tree.specs.declared.names.Names.{Names}
 use Rattle.ladder_tree.specs.declared.project.Rung.{Rung}
@@ -56,11 +59,15 @@ either : (a b c : Bool) → (a || b) ≡ true → (a ≡ true → c ≡ true) �
 either true b c e f g = f refl
 either false b c e f g = g e
 
-seen_by : (xs : List (List ℕ)) (n : List ℕ) (ns : List (List ℕ)) (b : Bool) → list_any (bytes_eq n) xs ≡ b → (Apart xs → Seen xs ns (firsts_from xs ns)) → (Apart (xs ++ n ∷ []) → Seen (xs ++ n ∷ []) ns (firsts_from (xs ++ n ∷ []) ns)) → Apart xs → Seen xs (n ∷ ns) (cond b (firsts_from xs ns) (firsts_from (xs ++ n ∷ []) ns))
+seen_by : (xs : List (List ℕ)) (n : List ℕ) (ns : List (List ℕ)) (b : Bool) → list_any (bytes_eq n) xs ≡ b → (Apart xs → Seen xs ns (firsts_from xs ns))
+    → (Apart (xs ++ n ∷ []) → Seen (xs ++ n ∷ []) ns (firsts_from (xs ++ n ∷ []) ns)) → Apart xs
+    → Seen xs (n ∷ ns) (cond b (firsts_from xs ns) (firsts_from (xs ++ n ∷ []) ns))
 seen_by xs n ns true e f g a = let s = f a in record {
   apart = s.apart;
   old = s.old;
-  new = λ m h. either (bytes_eq n m) (held ns m) _ h (λ q. s.old m (subst (λ (z : List ℕ). held xs z ≡ true) ((bytes_eq-Decides n m).0 q) (seen_held xs n e))) (s.new m);
+  new =
+      λ m h. either (bytes_eq n m) (held ns m) _ h (λ q. s.old m (subst (λ (z : List ℕ). held xs z ≡ true) ((bytes_eq-Decides n m).0 q) (seen_held xs n e)))
+      (s.new m);
   count = let c = s.count in omega arith;
 }
 seen_by xs n ns false e f g a = let s = g (apart_push xs n e a) in record {
@@ -77,7 +84,9 @@ seen_all xs (n ∷ ns) a = seen_by xs n ns (list_any (bytes_eq n) xs) refl (seen
 pub firsts_seen : (ns : List (List ℕ)) → Seen [] ns (firsts ns)
 firsts_seen ns = seen_all [] ns tt
 
-kind_step : (y : Bool) (xs : List (List ℕ)) (n : List ℕ) (ns : List (List ℕ)) (b : Bool) → is_output n ≡ y → OfKind y xs → (OfKind y xs → OfKind y (firsts_from xs ns)) → (OfKind y (xs ++ n ∷ []) → OfKind y (firsts_from (xs ++ n ∷ []) ns)) → OfKind y (cond b (firsts_from xs ns) (firsts_from (xs ++ n ∷ []) ns))
+kind_step : (y : Bool) (xs : List (List ℕ)) (n : List ℕ) (ns : List (List ℕ)) (b : Bool) → is_output n ≡ y → OfKind y xs
+    → (OfKind y xs → OfKind y (firsts_from xs ns)) → (OfKind y (xs ++ n ∷ []) → OfKind y (firsts_from (xs ++ n ∷ []) ns))
+    → OfKind y (cond b (firsts_from xs ns) (firsts_from (xs ++ n ∷ []) ns))
 kind_step y xs n ns true is k f g = f k
 kind_step y xs n ns false is k f g = g (kind_push y xs n is k)
 
@@ -109,7 +118,8 @@ listed y ns o = record {
   kind = λ k lt. kind_get y (firsts ns) k (firsts_kind y [] ns o tt) lt;
 }
 
-kind_by : (y : Bool) (is_kind : List ℕ → Bool) (n : List ℕ) (ns : List (List ℕ)) (b : Bool) → is_kind n ≡ b → ((m : List ℕ) → is_kind m ≡ true → is_output m ≡ y) → OfKind y (filter is_kind ns) → OfKind y (cond b (n ∷ filter is_kind ns) (filter is_kind ns))
+kind_by : (y : Bool) (is_kind : List ℕ → Bool) (n : List ℕ) (ns : List (List ℕ)) (b : Bool) → is_kind n ≡ b
+    → ((m : List ℕ) → is_kind m ≡ true → is_output m ≡ y) → OfKind y (filter is_kind ns) → OfKind y (cond b (n ∷ filter is_kind ns) (filter is_kind ns))
 kind_by y is_kind n ns true e f h = (f n e, h)
 kind_by y is_kind n ns false e f h = h
 
@@ -117,7 +127,9 @@ filter_kind : (y : Bool) (is_kind : List ℕ → Bool) (ns : List (List ℕ)) �
 filter_kind y is_kind [] f = tt
 filter_kind y is_kind (n ∷ ns) f = kind_by y is_kind n ns (is_kind n) refl f (filter_kind y is_kind ns f)
 
-held_by : (is_kind : List ℕ → Bool) (n m : List ℕ) (ns : List (List ℕ)) (b : Bool) → is_kind n ≡ b → is_kind m ≡ true → (held ns m ≡ true → held (filter is_kind ns) m ≡ true) → (bytes_eq n m || held ns m) ≡ true → held (cond b (n ∷ filter is_kind ns) (filter is_kind ns)) m ≡ true
+held_by : (is_kind : List ℕ → Bool) (n m : List ℕ) (ns : List (List ℕ)) (b : Bool) → is_kind n ≡ b → is_kind m ≡ true
+    → (held ns m ≡ true → held (filter is_kind ns) m ≡ true) → (bytes_eq n m || held ns m) ≡ true
+    → held (cond b (n ∷ filter is_kind ns) (filter is_kind ns)) m ≡ true
 held_by is_kind n m ns true e k f h = either (bytes_eq n m) (held ns m) _ h (λ q. grind (arith, q)) (λ q. let g = f q in grind (arith, g))
 held_by is_kind n m ns false e k f h = either (bytes_eq n m) (held ns m) _ h (λ q. absurd (let same = (bytes_eq-Decides n m).0 q in cc)) f
 
@@ -181,15 +193,20 @@ all_held : (list names : List (List ℕ)) → ((m : List ℕ) → held names m �
 all_held list [] f = tt
 all_held list (x ∷ xs) f = (f x (or_left _ _ (bytes_same x)), all_held list xs (λ m h. f m (or_right _ _ h)))
 
-place_by : (p : Layout) (kind : LeafKind) → has_kind kind ≡ true → Lists p (bit_names kind) (variable_names kind) (analog_names kind) (persistent_names kind) → (is_master kind ≡ true → p.has_master ≡ true) → IsNamedPlace p kind
-place_by p (Contacts name neg) e f h = let one = one_held name in picks (is_input name) (is_output name) (is_relay name) _ _ _ e (f.inputs name one) (f.outputs name one) (f.relays name one)
-place_by p (Coil name mode) e f h = let one = one_held name in picks false (is_output name) (is_relay name) true _ _ e (λ q. refl) (f.outputs name one) (f.relays name one)
+place_by : (p : Layout) (kind : LeafKind) → has_kind kind ≡ true → Lists p (bit_names kind) (variable_names kind) (analog_names kind) (persistent_names kind)
+    → (is_master kind ≡ true → p.has_master ≡ true) → IsNamedPlace p kind
+place_by p (Contacts name neg) e f h =
+    let one = one_held name in picks (is_input name) (is_output name) (is_relay name) _ _ _ e (f.inputs name one) (f.outputs name one) (f.relays name one)
+place_by p (Coil name mode) e f h =
+    let one = one_held name in picks false (is_output name) (is_relay name) true _ _ e (λ q. refl) (f.outputs name one) (f.relays name one)
 place_by p MasterRelay e f h = h refl
 place_by p (ReadAdc name) e f h = f.analog name (one_held name)
 place_by p (Persist name) e f h = f.persistent name (one_held name)
 place_by p _ e f h = tt
 
-each_named : (p : Layout) (ls : List leaf.Leaf) → all_well_named ls ≡ true → Lists p (all_bits ls) (all_named variable_names ls) (all_named analog_names ls) (all_named persistent_names ls) → (any_master ls ≡ true → p.has_master ≡ true) → AllNamed p ls
+each_named : (p : Layout) (ls : List leaf.Leaf) → all_well_named ls ≡ true
+    → Lists p (all_bits ls) (all_named variable_names ls) (all_named analog_names ls) (all_named persistent_names ls)
+    → (any_master ls ≡ true → p.has_master ≡ true) → AllNamed p ls
 each_named p [] e f h = tt
 each_named p (l ∷ ls) e f h =
     let kind : has_kind l.kind ≡ true = grind (arith, e) in
@@ -198,8 +215,10 @@ each_named p (l ∷ ls) e f h =
     let ks = all_named analog_names ls in
     let ps = all_named persistent_names ls in
     let front = lists_front p (bit_names l.kind) (all_bits ls) (variable_names l.kind) vs (analog_names l.kind) ks (persistent_names l.kind) ps f in
-    let back = lists_back p (bit_names l.kind) (all_bits ls) (variable_names l.kind) vs (analog_names l.kind) ks (persistent_names l.kind) ps f in
-    (record { place = place_by p l.kind kind front (λ q. h (or_left _ _ q)); variables = all_held p.variables (variable_names l.kind) front.variables }, each_named p ls rest back (λ q. h (or_right _ _ q)))
+    let back = lists_back p (bit_names l.kind) (all_bits ls) (variable_names l.kind) vs (analog_names l.kind) ks (persistent_names l.kind) ps f in (
+      record { place = place_by p l.kind kind front (λ q. h (or_left _ _ q)); variables = all_held p.variables (variable_names l.kind) front.variables },
+      each_named p ls rest back (λ q. h (or_right _ _ q)),
+    )
 
 input_kind : (m : List ℕ) → is_input m ≡ true → is_output m ≡ false
 input_kind m e = grind (arith, nat_tests, e)
@@ -210,7 +229,8 @@ relay_kind m e = grind (arith, nat_tests, e)
 held_firsts : (is_kind : List ℕ → Bool) (ns : List (List ℕ)) → (m : List ℕ) → held ns m ≡ true → is_kind m ≡ true → held (firsts (filter is_kind ns)) m ≡ true
 held_firsts is_kind ns m h k = (firsts_seen (filter is_kind ns)).new m (held_filter is_kind ns m k h)
 
-pub names_named : (gs : List Rung) (cycle : ℕ) → all_well_named (all_leaves gs) ≡ true → AllNamed (layout_of (names_of gs) cycle (any_master (all_leaves gs))) (all_leaves gs)
+pub names_named : (gs : List Rung) (cycle : ℕ) → all_well_named (all_leaves gs) ≡ true
+    → AllNamed (layout_of (names_of gs) cycle (any_master (all_leaves gs))) (all_leaves gs)
 names_named gs cycle e =
     let ls = all_leaves gs in
     each_named (layout_of (names_of gs) cycle (any_master ls)) ls e (record {
@@ -262,7 +282,9 @@ one_use _ = omega arith
 
 uses : (ls : List leaf.Leaf) → length (all_bits ls) + (memories_in ls + length (all_named persistent_names ls)) ≤ length ls
 uses [] = omega arith
-uses (l ∷ ls) = let h = uses ls in let k = one_use l.kind in omega (arith, length-append (bit_names l.kind) (all_bits ls), length-append (persistent_names l.kind) (all_named persistent_names ls))
+uses (l ∷ ls) =
+    let h = uses ls in let k = one_use l.kind in
+    omega (arith, length-append (bit_names l.kind) (all_bits ls), length-append (persistent_names l.kind) (all_named persistent_names ls))
 
 one_analog : (kind : LeafKind) → length (analog_names kind) ≤ 1
 one_analog (ReadAdc name) = omega arith

@@ -6,7 +6,8 @@ use Rattle.ladder_tree.specs.declared.element.CompareHow.TheVariants.{Equ, Neq, 
 use Rattle.ladder_tree.specs.declared.element.CompareHow.{CompareHow}
 use Rattle.ladder_tree.specs.declared.element.CounterHow.TheVariants.{Ctu, Ctd, Ctc}
 use Rattle.ladder_tree.specs.declared.element.CounterHow.{CounterHow}
-use Rattle.ladder_tree.specs.declared.element.LeafKind.TheVariants.{Contacts, Coil, Osr, Osf, Open, MasterRelay, Timer, Counter, Reset, Move, Math, Compare, Shift, Table, ReadAdc, SetPwm, Recv, Send, Persist}
+use Rattle.ladder_tree.specs.declared.element.LeafKind.TheVariants.{Contacts, Coil, Osr, Osf, Open, MasterRelay, Timer, Counter, Reset, Move, Math, Compare}
+use Rattle.ladder_tree.specs.declared.element.LeafKind.TheVariants.{Shift, Table, ReadAdc, SetPwm, Recv, Send, Persist}
 use Rattle.ladder_tree.specs.declared.element.LeafKind.{LeafKind}
 use Rattle.ladder_tree.specs.declared.element.MathHow.TheVariants as math
 use Rattle.ladder_tree.specs.declared.element.MathHow.{MathHow}
@@ -22,7 +23,8 @@ use Rattle.int_code.specs.declared.op.IntOp.{IntOp}
 use Rattle.int_code.specs.declared.op.NumSource.TheVariants.{V, N}
 use Rattle.int_code.specs.declared.op.NumSource.{NumSource}
 use Rattle.int_code.specs.declared.op.Shape.TheVariants.{Plain}
-use Rattle.ladder_lower.specs.ElementCode.{where_power, coil_code, contact_code, timer_code, on_rise, counter_code, move_op, math_op, compare_code, moves, element_code}
+use Rattle.ladder_lower.specs.ElementCode.{where_power, coil_code, contact_code, timer_code, on_rise, counter_code, move_op, math_op, compare_code, moves}
+use Rattle.ladder_lower.specs.ElementCode.{element_code}
 use Rattle.ladder_lower.specs.Nesting.{nesting_of_all}
 use Rattle.ladder_lower.specs.NodeCode.{program_code}
 use Rattle.ladder_lower.specs.Wires.{number_of, memory_bit, power}
@@ -122,5 +124,6 @@ module _ (p : Layout) where
 
   pub program_nests : (gs : List Rung) → Ready p gs → nests (program_code p gs) [] ≡ true
   program_nests gs ready =
-      let c = program_holds p (nesting_of_all gs) (λ ls ops. Closes ops) (closes_shared p (nesting_of_all gs)) (λ l k apt lt. element_closes l.kind k) gs (omega arith) ready in
+      let c = program_holds p (nesting_of_all gs) (λ ls ops. Closes ops) (closes_shared p (nesting_of_all gs)) (λ l k apt lt. element_closes l.kind k) gs
+      (omega arith) ready in
       ap (λ o. nests o []) (sym (append-nil (program_code p gs))) ∙ c.same [] []

@@ -46,7 +46,9 @@ then_piece a b = record { memories = a.memories + b.memories; code = λ d k. a.c
 two_lower : (p : Layout) (r : Reading) (a b : Part) (c e : Piece) → Lowers p r a c → Lowers p r b e → Lowers p r (then_part a b) (then_piece c e)
 two_lower p r a b c e f g = record {
   memories = let x = f.memories in let y = g.memories in omega arith;
-  asleep = λ d k m off. run-append r (c.code d k) (e.code d (k + c.memories)) m ∙ ap (run r (e.code d (k + c.memories))) (f.asleep d k m off) ∙ g.asleep d (k + c.memories) m off;
+  asleep =
+      λ d k m off. run-append r (c.code d k) (e.code d (k + c.memories)) m ∙ ap (run r (e.code d (k + c.memories))) (f.asleep d k m off)
+      ∙ g.asleep d (k + c.memories) m off;
   awake = λ d k m s lt yes sh.
       let first = f.awake d k m s (omega arith) yes sh in
       let l = run r (c.code d k) m in
@@ -106,7 +108,8 @@ record Begun (p : Layout) (d : ℕ) (m l : Moment) (s : Now) (x : Bool) : Type 0
   so_far : l.store.bit (or_wire p d) ≡ m.store.bit (or_wire p d)
   wires : (j : ℕ) → outer_wires p ≤ j → j < wires p d → l.store.bit (wire p j) ≡ m.store.bit (wire p j)
 
-forked : (p : Layout) (r : Reading) (d : ℕ) (m : Moment) (s : Now) → all_run m.ifs ≡ true → Stands p s m.store → Begun p d m (step r (fork p d) m) s (m.store.bit (power p))
+forked : (p : Layout) (r : Reading) (d : ℕ) (m : Moment) (s : Now) → all_run m.ifs ≡ true → Stands p s m.store
+    → Begun p d m (step r (fork p d) m) s (m.store.bit (power p))
 forked p r d m s on sh =
     let x = m.store.bit (power p) in
     rw on (record {
@@ -118,7 +121,8 @@ forked p r d m s on sh =
       wires = λ j lo hi. other (in_wire p d) (wire p j) x _ (omega arith);
     })
 
-kept : (p : Layout) (r : Reading) (d : ℕ) (m : Moment) (s : Now) (x acc : Bool) → m.store.bit (in_wire p d) ≡ x → m.store.bit (power p) ≡ acc → all_run m.ifs ≡ true → Stands p s m.store → Forked p d m (step r (keep p d) m) s x acc
+kept : (p : Layout) (r : Reading) (d : ℕ) (m : Moment) (s : Now) (x acc : Bool) → m.store.bit (in_wire p d) ≡ x → m.store.bit (power p) ≡ acc
+    → all_run m.ifs ≡ true → Stands p s m.store → Forked p d m (step r (keep p d) m) s x acc
 kept p r d m s x acc i v on sh = rw (on, v) (record {
   ifs = refl;
   shows = wire_write p s m.store (wires p d + 1) acc (inner_apart p (wires p d + 1) (omega arith)) sh;
@@ -127,7 +131,8 @@ kept p r d m s x acc i v on sh = rw (on, v) (record {
   wires = λ j lo hi. other (or_wire p d) (wire p j) acc _ (omega arith);
 })
 
-begun : (p : Layout) (r : Reading) (d : ℕ) (m : Moment) (s : Now) (x : Bool) → m.store.bit (in_wire p d) ≡ x → all_run m.ifs ≡ true → Stands p s m.store → Begun p d m (step r (again p d) m) s x
+begun : (p : Layout) (r : Reading) (d : ℕ) (m : Moment) (s : Now) (x : Bool) → m.store.bit (in_wire p d) ≡ x → all_run m.ifs ≡ true → Stands p s m.store
+    → Begun p d m (step r (again p d) m) s x
 begun p r d m s x i on sh = rw (on, i) (record {
   ifs = refl;
   shows = wire_write p s m.store 0 x (λ h e. cc) sh;
@@ -138,7 +143,8 @@ begun p r d m s x i on sh = rw (on, i) (record {
 })
 
 -- behind a branch that is not the last
-joined : (p : Layout) (r : Reading) (d : ℕ) (m : Moment) (s : Now) (x acc b : Bool) → m.store.bit (power p) ≡ b → m.store.bit (in_wire p d) ≡ x → m.store.bit (or_wire p d) ≡ acc → all_run m.ifs ≡ true → Stands p s m.store → Forked p d m (run r (join false p d) m) s x (acc || b)
+joined : (p : Layout) (r : Reading) (d : ℕ) (m : Moment) (s : Now) (x acc b : Bool) → m.store.bit (power p) ≡ b → m.store.bit (in_wire p d) ≡ x
+    → m.store.bit (or_wire p d) ≡ acc → all_run m.ifs ≡ true → Stands p s m.store → Forked p d m (run r (join false p d) m) s x (acc || b)
 joined p r d m s x acc true v i o on sh = rw (on, v) (record {
   ifs = refl;
   shows = wire_write p s m.store (wires p d + 1) true (inner_apart p (wires p d + 1) (omega arith)) sh;
@@ -155,7 +161,8 @@ joined p r d m s x acc false v i o on sh = rw (on, v) (record {
 })
 
 -- behind the last branch
-closed : (p : Layout) (r : Reading) (d : ℕ) (m : Moment) (s : Now) (acc b : Bool) → m.store.bit (or_wire p d) ≡ acc → m.store.bit (power p) ≡ b → all_run m.ifs ≡ true → Stands p s m.store → After p d m (run r (join true p d) m) (record { now = s; output = acc || b })
+closed : (p : Layout) (r : Reading) (d : ℕ) (m : Moment) (s : Now) (acc b : Bool) → m.store.bit (or_wire p d) ≡ acc → m.store.bit (power p) ≡ b
+    → all_run m.ifs ≡ true → Stands p s m.store → After p d m (run r (join true p d) m) (record { now = s; output = acc || b })
 closed p r d m s true b o v on sh = rw (on, o) (record {
   ifs = refl;
   shows = wire_write p s m.store 0 true (λ h e. cc) sh;
@@ -171,7 +178,8 @@ OthersAfter p d m l acc w = After p d m l (record { now = w.now; output = acc ||
 record OthersLower (p : Layout) (r : Reading) (a : Part) (c : Piece) : Type 0 where
   memories : c.memories ≡ a.memories
   asleep : (d k : ℕ) (m : Moment) → all_run m.ifs ≡ false → run r (c.code d k) m ≡ m
-  awake : (d k : ℕ) (m : Moment) (s : Now) (x acc : Bool) → k + a.memories ≤ p.memories → all_run m.ifs ≡ true → Stands p s m.store → m.store.bit (in_wire p d) ≡ x → m.store.bit (or_wire p d) ≡ acc → OthersAfter p d m (run r (c.code d k) m) acc (a.run k s x)
+  awake : (d k : ℕ) (m : Moment) (s : Now) (x acc : Bool) → k + a.memories ≤ p.memories → all_run m.ifs ≡ true → Stands p s m.store
+      → m.store.bit (in_wire p d) ≡ x → m.store.bit (or_wire p d) ≡ acc → OthersAfter p d m (run r (c.code d k) m) acc (a.run k s x)
 
 abbrev or_part : Part → Part → Part
 or_part a b = record {
@@ -188,12 +196,15 @@ other_piece last p a b = record {
   code = λ d k. again p d ∷ (a.code (d + 1) k ++ (join last p d ++ b.code d (k + a.memories)));
 }
 
-other_run : (last : Bool) (p : Layout) (r : Reading) (a b : Piece) (d k : ℕ) (m : Moment) → run r ((other_piece last p a b).code d k) m ≡ run r (b.code d (k + a.memories)) (run r (join last p d) (run r (a.code (d + 1) k) (step r (again p d) m)))
+other_run : (last : Bool) (p : Layout) (r : Reading) (a b : Piece) (d k : ℕ) (m : Moment)
+    → run r ((other_piece last p a b).code d k) m ≡ run r (b.code d (k + a.memories)) (run r (join last p d) (run r (a.code (d + 1) k) (step r (again p d) m)))
 other_run last p r a b d k m =
     run-append r (a.code (d + 1) k) (join last p d ++ b.code d (k + a.memories)) (step r (again p d) m)
     ∙ run-append r (join last p d) (b.code d (k + a.memories)) (run r (a.code (d + 1) k) (step r (again p d) m))
 
-other_asleep : (last : Bool) (p : Layout) (r : Reading) (c e : Piece) → ((d k : ℕ) (m : Moment) → all_run m.ifs ≡ false → run r (c.code d k) m ≡ m) → ((d k : ℕ) (m : Moment) → all_run m.ifs ≡ false → run r (e.code d k) m ≡ m) → (d k : ℕ) (m : Moment) → all_run m.ifs ≡ false → run r ((other_piece last p c e).code d k) m ≡ m
+other_asleep : (last : Bool) (p : Layout) (r : Reading) (c e : Piece) → ((d k : ℕ) (m : Moment) → all_run m.ifs ≡ false → run r (c.code d k) m ≡ m)
+    → ((d k : ℕ) (m : Moment) → all_run m.ifs ≡ false → run r (e.code d k) m ≡ m) → (d k : ℕ) (m : Moment) → all_run m.ifs ≡ false
+    → run r ((other_piece last p c e).code d k) m ≡ m
 other_asleep last p r c e f g d k m off =
     let rest = run r (e.code d (k + c.memories)) in
     other_run last p r c e d k m
@@ -212,7 +223,8 @@ record Branched (p : Layout) (d : ℕ) (m l : Moment) (x : Bool) (w : Went) : Ty
   so_far : l.store.bit (or_wire p d) ≡ m.store.bit (or_wire p d)
   wires : (j : ℕ) → outer_wires p ≤ j → j < wires p d → l.store.bit (wire p j) ≡ m.store.bit (wire p j)
 
-branched : (p : Layout) (r : Reading) (a : Part) (c : Piece) → Lowers p r a c → (d k : ℕ) (m l : Moment) (s : Now) (x : Bool) → k + a.memories ≤ p.memories → all_run m.ifs ≡ true → Begun p d m l s x → Branched p d m (run r (c.code (d + 1) k) l) x (a.run k s x)
+branched : (p : Layout) (r : Reading) (a : Part) (c : Piece) → Lowers p r a c → (d k : ℕ) (m l : Moment) (s : Now) (x : Bool) → k + a.memories ≤ p.memories
+    → all_run m.ifs ≡ true → Begun p d m l s x → Branched p d m (run r (c.code (d + 1) k) l) x (a.run k s x)
 branched p r a c f d k m l s x lt on st =
     let on1 : all_run l.ifs ≡ true = ap all_run st.ifs ∙ on in
     let br : After p (d + 1) l (run r (c.code (d + 1) k) l) (a.run k s x) = rw st.power at (f.awake (d + 1) k l s lt on1 st.shows) in
@@ -226,7 +238,8 @@ branched p r a c f d k m l s x lt on st =
       wires = λ j lo hi. br.wires j lo (omega arith) ∙ st.wires j lo hi;
     }
 
-last_lowers : (p : Layout) (r : Reading) (a : Part) (c : Piece) → Lowers p r a c → OthersLower p r (or_part a (parallel [])) (other_piece true p c (others_code p []))
+last_lowers : (p : Layout) (r : Reading) (a : Part) (c : Piece) → Lowers p r a c
+    → OthersLower p r (or_part a (parallel [])) (other_piece true p c (others_code p []))
 last_lowers p r a c f = record {
   memories = let x = f.memories in omega arith;
   asleep = other_asleep true p r c (others_code p []) f.asleep (λ d k m off. refl);
@@ -243,7 +256,8 @@ last_lowers p r a c f = record {
       });
 }
 
-middle_lowers : (p : Layout) (r : Reading) (a b : Part) (c e : Piece) → Lowers p r a c → OthersLower p r b e → OthersLower p r (or_part a b) (other_piece false p c e)
+middle_lowers : (p : Layout) (r : Reading) (a b : Part) (c e : Piece) → Lowers p r a c → OthersLower p r b e
+    → OthersLower p r (or_part a b) (other_piece false p c e)
 middle_lowers p r a b c e f g = record {
   memories = let x = f.memories in let y = g.memories in omega arith;
   asleep = other_asleep false p r c e f.asleep g.asleep;
@@ -263,7 +277,8 @@ middle_lowers p r a b c e f g = record {
       });
 }
 
-fork_run : (p : Layout) (r : Reading) (a b : Piece) (d k : ℕ) (m : Moment) → run r ((fork_code p a b).code d k) m ≡ run r (b.code d (k + a.memories)) (step r (keep p d) (run r (a.code (d + 1) k) (step r (fork p d) m)))
+fork_run : (p : Layout) (r : Reading) (a b : Piece) (d k : ℕ) (m : Moment)
+    → run r ((fork_code p a b).code d k) m ≡ run r (b.code d (k + a.memories)) (step r (keep p d) (run r (a.code (d + 1) k) (step r (fork p d) m)))
 fork_run p r a b d k m = run-append r (a.code (d + 1) k) (keep p d ∷ b.code d (k + a.memories)) (step r (fork p d) m)
 
 fork_lowers : (p : Layout) (r : Reading) (a b : Part) (c e : Piece) → Lowers p r a c → OthersLower p r b e → Lowers p r (or_part a b) (fork_code p c e)
@@ -320,11 +335,13 @@ only_lowers p r a c f = record {
 }
 
 module _ (p : Layout) (r : Reading) (g : Seen) where
-  others_lower : (n : Node) (ns : List Node) → NodeLowers p r g n → Each (NodeLowers p r g) ns → OthersLower p r (parallel (map (node (terms_of p) (levels p g r)) (n ∷ ns))) (others_code p (map (piece p) (n ∷ ns)))
+  others_lower : (n : Node) (ns : List Node) → NodeLowers p r g n → Each (NodeLowers p r g) ns
+      → OthersLower p r (parallel (map (node (terms_of p) (levels p g r)) (n ∷ ns))) (others_code p (map (piece p) (n ∷ ns)))
   others_lower n [] f h = last_lowers p r _ _ f
   others_lower n (o ∷ ns) f h = middle_lowers p r _ _ _ _ f (others_lower o ns h.0 h.1)
 
-  pub parallel_lower : (ns : List Node) → Each (NodeLowers p r g) ns → Lowers p r (parallel (map (node (terms_of p) (levels p g r)) ns)) (parallel_code p (map (piece p) ns))
+  pub parallel_lower : (ns : List Node) → Each (NodeLowers p r g) ns
+      → Lowers p r (parallel (map (node (terms_of p) (levels p g r)) ns)) (parallel_code p (map (piece p) ns))
   parallel_lower [] h = off_lowers p r
   parallel_lower (n ∷ []) h = only_lowers p r _ _ h.0
   parallel_lower (n ∷ o ∷ ns) h = fork_lowers p r _ _ _ _ h.0 (others_lower o ns h.1.0 h.1.1)
@@ -347,8 +364,10 @@ module _ (p : Layout) (r : Reading) (g : Seen) where
   pub node_lowers : (n : Node) → AllNamed p (leaves n) → NodeLowers p r g n
   node_lowers = node_ind NamedLowers
       (λ l all. rw (fold-Leaf Part (node_step (terms_of p) (levels p g r)) l, fold-Leaf Piece (piece_step p) l) (leaf_lowers l (rw (leaves-Leaf l) at all).0))
-      (λ ns h all. rw (fold-Series Part (node_step (terms_of p) (levels p g r)) ns, fold-Series Piece (piece_step p) ns) (series_lower p r g ns (each_lowers ns h (rw (leaves-Series ns) at all))))
-      (λ ns h all. rw (fold-Parallel Part (node_step (terms_of p) (levels p g r)) ns, fold-Parallel Piece (piece_step p) ns) (parallel_lower ns (each_lowers ns h (rw (leaves-Parallel ns) at all))))
+      (λ ns h all. rw (fold-Series Part (node_step (terms_of p) (levels p g r)) ns, fold-Series Piece (piece_step p) ns)
+      (series_lower p r g ns (each_lowers ns h (rw (leaves-Series ns) at all))))
+      (λ ns h all. rw (fold-Parallel Part (node_step (terms_of p) (levels p g r)) ns, fold-Parallel Piece (piece_step p) ns)
+      (parallel_lower ns (each_lowers ns h (rw (leaves-Parallel ns) at all))))
 
   pub nodes_lower : (ns : List Node) → AllNamed p (leaves_in ns) → Lowers p r (nodes (terms_of p) (levels p g r) ns) (nodes_piece p ns)
   nodes_lower ns all = series_lower p r g ns (each_of ns all)

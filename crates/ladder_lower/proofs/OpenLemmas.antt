@@ -7,7 +7,9 @@ use Rattle.int_code.specs.declared.op.Shape.TheVariants.{Opens, Turns, Closes, P
 use Rattle.int_code.specs.declared.op.Shape.{Shape}
 
 module _ (rest : List IntOp) (outer : List Bool) where
-  behind_by : (shape : Shape) (ops : List IntOp) (es : List Bool) → ((fs : List Bool) → nests ops fs ≡ true → nests (ops ++ rest) (fs ++ outer) ≡ nests rest outer) → nests_by shape (nests ops) es ≡ true → nests_by shape (nests (ops ++ rest)) (es ++ outer) ≡ nests rest outer
+  behind_by : (shape : Shape) (ops : List IntOp) (es : List Bool)
+      → ((fs : List Bool) → nests ops fs ≡ true → nests (ops ++ rest) (fs ++ outer) ≡ nests rest outer) → nests_by shape (nests ops) es ≡ true
+      → nests_by shape (nests (ops ++ rest)) (es ++ outer) ≡ nests rest outer
   behind_by Opens ops es ih is = ih (false ∷ es) is
   behind_by Turns ops [] ih is = absurd (cc)
   behind_by Turns ops (true ∷ es) ih is = absurd (cc)

@@ -8,17 +8,21 @@ use Rattle.ladder_tree.specs.declared.element.CompareHow.TheVariants.{Equ, Neq, 
 use Rattle.ladder_tree.specs.declared.element.CompareHow.{CompareHow}
 use Rattle.ladder_tree.specs.declared.element.CounterHow.TheVariants.{Ctu, Ctd, Ctc}
 use Rattle.ladder_tree.specs.declared.element.CounterHow.{CounterHow}
-use Rattle.ladder_tree.specs.declared.element.LeafKind.TheVariants.{Contacts, Coil, Timer, Counter, Move, Math, Compare, Shift, Table, SetPwm, Recv, Send, Persist}
+use Rattle.ladder_tree.specs.declared.element.LeafKind.TheVariants.{Contacts, Coil, Osr, Osf, Short, Open, MasterRelay, Placeholder, Comment, Timer, Counter}
+use Rattle.ladder_tree.specs.declared.element.LeafKind.TheVariants.{Reset, Move, Math, Compare, Shift, Table, ReadAdc, SetPwm, Recv, Send, Persist, Linear}
+use Rattle.ladder_tree.specs.declared.element.LeafKind.TheVariants.{Formatted}
 use Rattle.ladder_tree.specs.declared.element.LeafKind.{LeafKind}
 use Rattle.ladder_tree.specs.declared.element.MathHow.TheVariants as math
 use Rattle.ladder_tree.specs.declared.element.MathHow.{MathHow}
 use Rattle.ladder_tree.specs.declared.element.TimerHow.TheVariants.{Ton, Tof, Rto}
 use Rattle.ladder_tree.specs.declared.element.TimerHow.{TimerHow}
-use Rattle.int_code.specs.declared.op.IntOp.TheVariants.{Pwm, Rx, Tx, Eewr, Tab}
+use Rattle.int_code.specs.declared.op.IntOp.TheVariants.{Set, Clr, Cpy, Not, Ifs, Ifc, Iflt, Ifeq, Ifee, Els, Fi, Lit, Mov, Add, Sub, Mul, Div, Inc, Dec, Adc}
+use Rattle.int_code.specs.declared.op.IntOp.TheVariants.{Pwm, Rx, Tx, Eebusy, Eerd, Eewr, Tab}
 use Rattle.int_code.specs.declared.op.IntOp.{IntOp}
 use Rattle.int_code.specs.declared.op.NumSource.TheVariants.{V, N}
 use Rattle.int_code.specs.declared.op.NumSource.{NumSource}
-use Rattle.ladder_lower.specs.ElementCode.{coil_code, contact_code, timer_code, on_rise, counter_code, where_power, move_op, math_op, compare_code, moves, element_code}
+use Rattle.ladder_lower.specs.ElementCode.{coil_code, contact_code, timer_code, on_rise, counter_code, where_power, move_op, math_op, compare_code, moves}
+use Rattle.ladder_lower.specs.ElementCode.{element_code}
 use Rattle.ladder_lower.specs.Wires.{number_of}
 use Rattle.ladder_lower.specs.declared.layout.Layout.{Layout}
 
@@ -28,7 +32,28 @@ is_special (Rx v b) = true
 is_special (Tx w s b) = true
 is_special (Eewr w a) = true
 is_special (Tab v w values) = true
-is_special op = false
+is_special (Set b) = false
+is_special (Clr b) = false
+is_special (Cpy b s) = false
+is_special (Not b s) = false
+is_special (Ifs s) = false
+is_special (Ifc s) = false
+is_special (Iflt w u) = false
+is_special (Ifeq w u) = false
+is_special (Ifee v a) = false
+is_special Els = false
+is_special Fi = false
+is_special (Lit v n) = false
+is_special (Mov v from) = false
+is_special (Add v w u) = false
+is_special (Sub v w u) = false
+is_special (Mul v w u) = false
+is_special (Div v w u) = false
+is_special (Inc v) = false
+is_special (Dec v) = false
+is_special (Adc v k) = false
+is_special (Eebusy b) = false
+is_special (Eerd v a) = false
 
 abbrev pub any_special : List IntOp → Bool
 any_special ops = list_any is_special ops
@@ -39,7 +64,25 @@ is_special_kind (Recv name) = true
 is_special_kind (Send name) = true
 is_special_kind (Persist name) = true
 is_special_kind (Table dest index as_text values) = true
-is_special_kind kind = false
+is_special_kind (Contacts name neg) = false
+is_special_kind (Coil name how) = false
+is_special_kind Osr = false
+is_special_kind Osf = false
+is_special_kind Short = false
+is_special_kind Open = false
+is_special_kind MasterRelay = false
+is_special_kind Placeholder = false
+is_special_kind (Comment text) = false
+is_special_kind (Timer how name delay) = false
+is_special_kind (Counter how name max) = false
+is_special_kind (Reset name) = false
+is_special_kind (Move dest src) = false
+is_special_kind (Math how dest a b) = false
+is_special_kind (Compare how a b) = false
+is_special_kind (Shift name places) = false
+is_special_kind (ReadAdc name) = false
+is_special_kind (Linear dest index points) = false
+is_special_kind (Formatted name text) = false
 
 module _ (p : Layout) where
   contact_plain : (neg : Bool) (name : List ℕ) → any_special (contact_code p neg name) ≡ false

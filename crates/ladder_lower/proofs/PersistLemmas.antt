@@ -47,7 +47,8 @@ record Checks (p : Layout) (d : ℕ) (m l : Moment) (c : Checked) (x : Bool) : T
   busy : l.store.bit (spare p) ≡ not c.is_free
 
 -- a choice between two states that keeps the power
-went_cond : (b : Bool) (l s : Now) (x : Bool) → cond {A = Went} b (record { now = l; output = x }) (record { now = s; output = x }) ≡ record { now = cond b l s; output = x }
+went_cond : (b : Bool) (l s : Now) (x : Bool)
+    → cond {A = Went} b (record { now = l; output = x }) (record { now = s; output = x }) ≡ record { now = cond b l s; output = x }
 went_cond true l s x = refl
 went_cond false l s x = refl
 
@@ -65,7 +66,8 @@ is_saved address name s = int_eq (saved_number s.kept address) (s.kept.number na
 
 abbrev once : ℕ → List ℕ → Checked → Now
 once address name c =
-    cond c.is_free (cond (c.now.kept.loaded name) (cond (is_saved address name c.now) c.now (saved_now address name c.now)) (loaded_now address name c.now)) c.now
+    cond c.is_free (cond (c.now.kept.loaded name) (cond (is_saved address name c.now) c.now (saved_now address name c.now))
+    (loaded_now address name c.now)) c.now
 
 unless : {A : Type 0} (b : Bool) (x y : A) → cond (not b) x y ≡ cond b y x
 unless true x y = refl
@@ -76,7 +78,8 @@ abbrev at : Now → Bool → Option Pending → Now
 at s b o = record s { kept = record s.kept { pending = o }; writing = b }
 
 -- A second check finds what the first did. Once the variable is loaded, it is what the EEPROM holds.
-two_checks : (address : ℕ) (name : List ℕ) (s : Now) (b l : Bool) (o : Option Pending) → s.kept.loaded name ≡ l → save address name (load address name (at s b o)) ≡ once address name (check (at s b o))
+two_checks : (address : ℕ) (name : List ℕ) (s : Now) (b l : Bool) (o : Option Pending) → s.kept.loaded name ≡ l
+    → save address name (load address name (at s b o)) ≡ once address name (check (at s b o))
 two_checks address name s true true o e = rw e refl
 two_checks address name s true false o e = rw e refl
 two_checks address name s false true None e = rw e (unless (is_saved address name s) _ _)
@@ -102,7 +105,8 @@ module _ (p : Layout) (r : Reading) (name : List ℕ) where
   -- where the EEPROM is free
   abbrev where_free : List IntOp
   where_free =
-      Ifc (source.B (spare p)) ∷ Ifs (source.B (flag_bit p name)) ∷ (save_code variable place ++ Els ∷ Eerd variable place ∷ Set (dest.B (flag_bit p name)) ∷ Fi ∷ Fi ∷ [])
+      Ifc (source.B (spare p)) ∷ Ifs (source.B (flag_bit p name))
+      ∷ (save_code variable place ++ Els ∷ Eerd variable place ∷ Set (dest.B (flag_bit p name)) ∷ Fi ∷ Fi ∷ [])
 
   module _ (d : ℕ) (is : held p.persistent name ≡ true) (has : held p.variables name ≡ true) where
     checks : (m : Moment) (s : Now) (x : Bool) → m.store.bit (power p) ≡ x → all_run m.ifs ≡ true → Stands p s m.store → Checks p d m (run r asks m) (check s) x
@@ -114,36 +118,46 @@ module _ (p : Layout) (r : Reading) (name : List ℕ) where
         let e : ds ≡ devices_of c.now = rw sh.devices (check_devices s s.writing s.kept.pending) in
         let f : busy ≡ not c.is_free = rw sh.devices (check_answers s s.writing s.kept.pending) in
         record {
-          after = one_after p r (Eebusy (dest.B (spare p))) d m (record { now = c.now; output = x }) refl on (spare_wrote busy (omega (arith, some)) (devices_wrote c.now ds e (check_same s s.writing s.kept.pending) (nothing_wrote s m.store x v sh)));
+          after =
+              one_after p r (Eebusy (dest.B (spare p))) d m (record { now = c.now; output = x }) refl on
+              (spare_wrote busy (omega (arith, some)) (devices_wrote c.now ds e (check_same s s.writing s.kept.pending) (nothing_wrote s m.store x v sh)));
           busy = rw on (same (spare p) busy _ ∙ f);
         }
 
-    loads : (m : Moment) (s : Now) (x : Bool) → m.store.bit (power p) ≡ x → m.store.bit (spare p) ≡ false → m.store.bit (flag_bit p name) ≡ false → all_run m.ifs ≡ true → Stands p s m.store → After p d m (run r where_free m) (record { now = loaded_now address name s; output = x })
+    loads : (m : Moment) (s : Now) (x : Bool) → m.store.bit (power p) ≡ x → m.store.bit (spare p) ≡ false → m.store.bit (flag_bit p name) ≡ false
+        → all_run m.ifs ≡ true → Stands p s m.store → After p d m (run r where_free m) (record { now = loaded_now address name s; output = x })
     loads m s x v free flag on sh =
         let n = saved_number s.kept address in
         let e : device.saved m.store.devices place ≡ n = rw sh.devices refl in
         rw (on, free, flag, e) (after d m _ (flag_wrote name is (number_wrote name n has (nothing_wrote s m.store x v sh))))
 
     -- by whether the saved number is the variable's
-    saves : (m : Moment) (s : Now) (x b : Bool) → is_saved address name s ≡ b → m.store.bit (power p) ≡ x → m.store.bit (spare p) ≡ false → m.store.bit (flag_bit p name) ≡ true → all_run m.ifs ≡ true → Stands p s m.store → After p d m (run r where_free m) (record { now = cond b s (saved_now address name s); output = x })
+    saves : (m : Moment) (s : Now) (x b : Bool) → is_saved address name s ≡ b → m.store.bit (power p) ≡ x → m.store.bit (spare p) ≡ false
+        → m.store.bit (flag_bit p name) ≡ true → all_run m.ifs ≡ true → Stands p s m.store
+        → After p d m (run r where_free m) (record { now = cond b s (saved_now address name s); output = x })
     saves m s x true w v free flag on sh =
-        let e : int_eq (m.store.number variable) (device.saved m.store.devices place) ≡ true = rw (sh.devices, sh.numbers name has) (int_eq_equiv.symm (s.kept.number name) (saved_number s.kept address) ∙ w) in
+        let e : int_eq (m.store.number variable) (device.saved m.store.devices place) ≡ true = rw (sh.devices, sh.numbers name has)
+        (int_eq_equiv.symm (s.kept.number name) (saved_number s.kept address) ∙ w) in
         rw (on, free, flag, e) (after d m _ (nothing_wrote s m.store x v sh))
     saves m s x false w v free flag on sh =
-        let e : int_eq (m.store.number variable) (device.saved m.store.devices place) ≡ false = rw (sh.devices, sh.numbers name has) (int_eq_equiv.symm (s.kept.number name) (saved_number s.kept address) ∙ w) in
+        let e : int_eq (m.store.number variable) (device.saved m.store.devices place) ≡ false = rw (sh.devices, sh.numbers name has)
+        (int_eq_equiv.symm (s.kept.number name) (saved_number s.kept address) ∙ w) in
         let ds = device.saves m.store.devices place (m.store.number variable) in
         let f : ds ≡ devices_of (saved_now address name s) = rw (sh.devices, sh.numbers name has) refl in
         rw (on, free, flag, e) (after d m _ (devices_wrote (saved_now address name s) ds f refl (nothing_wrote s m.store x v sh)))
 
     -- behind the check, by its answer and the start flag
-    free_by : (m : Moment) (c : Checked) (x b l : Bool) → c.is_free ≡ b → c.now.kept.loaded name ≡ l → m.store.bit (power p) ≡ x → m.store.bit (spare p) ≡ not c.is_free → all_run m.ifs ≡ true → Stands p c.now m.store → After p d m (run r where_free m) (record { now = once address name c; output = x })
+    free_by : (m : Moment) (c : Checked) (x b l : Bool) → c.is_free ≡ b → c.now.kept.loaded name ≡ l → m.store.bit (power p) ≡ x
+        → m.store.bit (spare p) ≡ not c.is_free → all_run m.ifs ≡ true → Stands p c.now m.store
+        → After p d m (run r where_free m) (record { now = once address name c; output = x })
     free_by m c x false l e f v busy on sh =
         let w : m.store.bit (spare p) ≡ true = busy ∙ ap not e in
         rw (e, on, w) (after d m _ (nothing_wrote c.now m.store x v sh))
     free_by m c x true true e f v busy on sh = rw (e, f) (saves m c.now x (is_saved address name c.now) refl v (busy ∙ ap not e) (sh.loaded name is ∙ f) on sh)
     free_by m c x true false e f v busy on sh = rw (e, f) (loads m c.now x v (busy ∙ ap not e) (sh.loaded name is ∙ f) on sh)
 
-    asked : (m : Moment) (s : Now) (x : Bool) → m.store.bit (power p) ≡ x → all_run m.ifs ≡ true → Stands p s m.store → After p d m (run r (asks ++ where_free) m) (record { now = once address name (check s); output = x })
+    asked : (m : Moment) (s : Now) (x : Bool) → m.store.bit (power p) ≡ x → all_run m.ifs ≡ true → Stands p s m.store
+        → After p d m (run r (asks ++ where_free) m) (record { now = once address name (check s); output = x })
     asked m s x v on sh =
         let c = check s in
         let f = checks m s x v on sh in
@@ -151,11 +165,14 @@ module _ (p : Layout) (r : Reading) (name : List ℕ) where
         then_after p r asks where_free d m (record { now = c.now; output = x }) (record { now = once address name c; output = x }) f.after
         (free_by n c x c.is_free (c.now.kept.loaded name) refl refl f.after.power f.busy (ap all_run f.after.ifs ∙ on) f.after.shows)
 
-    pub persist_done : (m : Moment) (s : Now) → all_run m.ifs ≡ true → Stands p s m.store → After p d m (run r (persist_code p name) m) (record { now = cond (m.store.bit (power p)) (persist p.persistent name s) s; output = m.store.bit (power p) })
+    pub persist_done : (m : Moment) (s : Now) → all_run m.ifs ≡ true → Stands p s m.store
+        → After p d m (run r (persist_code p name) m)
+        (record { now = cond (m.store.bit (power p)) (persist p.persistent name s) s; output = m.store.bit (power p) })
     persist_done m s on sh =
         let x = m.store.bit (power p) in
         let l = once address name (check s) in
         let e : persist p.persistent name s ≡ l = two_checks address name s s.writing (s.kept.loaded name) s.kept.pending refl in
         let on1 : all_run (inside m).ifs ≡ true = rw on refl in
         rw e (rw (← went_cond x l s x)
-        (block_by p r (Ifs (source.B (power p))) (asks ++ where_free) d m s (record { now = l; output = x }) x (record { opens = refl; writes_none = refl; runs = refl }) refl on sh (λ e. asked (inside m) s x refl on1 sh)))
+        (block_by p r (Ifs (source.B (power p))) (asks ++ where_free) d m s (record { now = l; output = x }) x
+        (record { opens = refl; writes_none = refl; runs = refl }) refl on sh (λ e. asked (inside m) s x refl on1 sh)))

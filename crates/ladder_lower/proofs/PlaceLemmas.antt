@@ -1,5 +1,6 @@
 -- Places of names are apart, and below their lists' lengths.
-use Rattle.std.proofs.Common.{◌≡◌, ◌≢◌, ℕ, zero, suc, ◌+◌, ◌<◌, ◌≤◌, ◌⊎◌, inl, inr, ◌||◌, Bool, true, false, cond, nat_eq, List, [], ◌∷◌, ◌++◌, length, get_or, map, refl, sym, ap, ◌∙◌, ⊎_elim, arith, Bor, take, add-one}
+use Rattle.std.proofs.Common.{◌≡◌, ◌≢◌, ℕ, zero, suc, ◌+◌, ◌<◌, ◌≤◌, ◌⊎◌, inl, inr, ◌||◌, Bool, true, false, cond, nat_eq, List, [], ◌∷◌, ◌++◌, length, get_or}
+use Rattle.std.proofs.Common.{map, refl, sym, ap, ◌∙◌, ⊎_elim, arith, Bor, take, add-one}
 use Rattle.std.proofs.lemmas.Bool.Decides.{nat_tests, not_from_Decides}
 use Rattle.std.proofs.lemmas.Bool.{cases_Bool}
 use Rattle.std.proofs.lemmas.List.Recursion.{is_position_or_len}
@@ -15,9 +16,11 @@ use Rattle.ladder_lower.proofs.Stands.{held}
 
 -- the test on two names, with what it tells
 pub bytes_tells : (a b : List ℕ) → ((bytes_eq a b ≡ true) × (a ≡ b)) ⊎ ((bytes_eq a b ≡ false) × (a ≢ b))
-bytes_tells a b = ⊎_elim (λ e. inl (e, (bytes_eq-Decides a b).0 e)) (λ e. inr (e, not_from_Decides (bytes_eq a b) (bytes_eq-Decides a b) e)) (cases_Bool (bytes_eq a b))
+bytes_tells a b =
+    ⊎_elim (λ e. inl (e, (bytes_eq-Decides a b).0 e)) (λ e. inr (e, not_from_Decides (bytes_eq a b) (bytes_eq-Decides a b) e)) (cases_Bool (bytes_eq a b))
 
-apart_step : (x m n : List ℕ) (i j : ℕ) → (bytes_eq x m ≡ false → nat_eq i j ≡ bytes_eq m n) → nat_eq (cond (bytes_eq x m) 0 (i + 1)) (cond (bytes_eq x n) 0 (j + 1)) ≡ bytes_eq m n
+apart_step : (x m n : List ℕ) (i j : ℕ) → (bytes_eq x m ≡ false → nat_eq i j ≡ bytes_eq m n)
+    → nat_eq (cond (bytes_eq x m) 0 (i + 1)) (cond (bytes_eq x n) 0 (j + 1)) ≡ bytes_eq m n
 apart_step x m n i j h = grind (arith, nat_tests, bytes_tells)
 
 -- two names have one place just where they are one
@@ -33,7 +36,8 @@ pub place_below : (xs : List (List ℕ)) (n : List ℕ) → held xs n ≡ true �
 place_below [] n h = absurd (cc)
 place_below (x ∷ xs) n h = let k = below_step (bytes_eq x n) (place_of xs n) (length xs) (λ e. place_below xs n (rw e at h)) in omega (arith, k)
 
-get_step : (b : Bool) (x name : List ℕ) (xs : List (List ℕ)) (i : ℕ) → (b ≡ true → x ≡ name) → (b ≡ false → slice_index_or xs i [] ≡ name) → slice_index_or (x ∷ xs) (cond b 0 (i + 1)) [] ≡ name
+get_step : (b : Bool) (x name : List ℕ) (xs : List (List ℕ)) (i : ℕ) → (b ≡ true → x ≡ name) → (b ≡ false → slice_index_or xs i [] ≡ name)
+    → slice_index_or (x ∷ xs) (cond b 0 (i + 1)) [] ≡ name
 get_step true x name xs i f g = f refl
 get_step false x name xs i f g = rw add-one (g refl)
 
@@ -77,7 +81,8 @@ is_get [] i name lt is = absurd (omega arith)
 is_get (x ∷ xs) zero name lt is = is
 is_get (x ∷ xs) (suc i) name lt is = is_get xs i name (omega arith) is
 
-pub place_step : (xs : List (List ℕ)) (i : ℕ) (name : List ℕ) (ks : List (Bor (List ℕ))) (k : Bor (List ℕ)) → Apart xs → i < length xs → name ≡ get_or xs i name → k.now ≡ name → texts ks ≡ take i xs → texts (cond (list_any (λ x. bytes_eq k.now x.now) ks) ks (ks ++ k ∷ [])) ≡ take (i + 1) xs
+pub place_step : (xs : List (List ℕ)) (i : ℕ) (name : List ℕ) (ks : List (Bor (List ℕ))) (k : Bor (List ℕ)) → Apart xs → i < length xs → name ≡ get_or xs i name
+    → k.now ≡ name → texts ks ≡ take i xs → texts (cond (list_any (λ x. bytes_eq k.now x.now) ks) ks (ks ++ k ∷ [])) ≡ take (i + 1) xs
 place_step xs i name ks k a lt is same e =
     let new : list_any (λ x. bytes_eq k.now x.now) ks ≡ false = among k.now ks ∙ rw (same, e) (fresh xs i name a lt (is_get xs i name lt is)) in
     rw (new, texts_push ks k, e, same) (ap (λ n. take i xs ++ n ∷ []) is ∙ sym (take_more xs i name lt))
@@ -95,7 +100,8 @@ key_step k name i = grind (arith, bytes_tells)
 
 -- the first key with a text is where the text stands
 position_is : (ks : List (Bor (List ℕ))) (name : List ℕ) → place_of (texts ks) name ≡ position_or_len (λ k. bytes_eq name k.now) ks
-position_is ks name = is_position_or_len (λ ks. place_of (texts ks) name) (λ k. bytes_eq name k.now) refl (λ k ks. key_step k name (place_of (texts ks) name)) ks
+position_is ks name =
+    is_position_or_len (λ ks. place_of (texts ks) name) (λ k. bytes_eq name k.now) refl (λ k ks. key_step k name (place_of (texts ks) name)) ks
 
 unwrap_by : (b : Bool) (n m : ℕ) → nat_lt n m ≡ b → n ≤ m → unwrap_or (cond b (Some n) None) m ≡ n
 unwrap_by true n m e le = refl
@@ -105,4 +111,5 @@ pub found_at : (ks : List (Bor (List ℕ))) (name : List ℕ) → unwrap_or (pos
 found_at ks name =
     let most = place_most (texts ks) name in
     let e = position_is ks name in
-    unwrap_by (nat_lt (position_or_len (λ k. bytes_eq name k.now) ks) (length ks)) (position_or_len (λ k. bytes_eq name k.now) ks) (length ks) refl (omega (arith, length-map ks (λ k. k.now), most, e)) ∙ sym e
+    unwrap_by (nat_lt (position_or_len (λ k. bytes_eq name k.now) ks) (length ks)) (position_or_len (λ k. bytes_eq name k.now) ks) (length ks) refl
+    (omega (arith, length-map ks (λ k. k.now), most, e)) ∙ sym e

@@ -1,5 +1,5 @@
 -- What is known of a project whose names are its lists.
-use Rattle.std.proofs.Common.{◌≡◌, ◌+◌, ◌≤◌, Bool, true, false, cond, length, ap, arith}
+use Rattle.std.proofs.Common.{◌≡◌, ◌+◌, ◌≤◌, Bool, true, false, cond, length, ap, arith, ℕ, refl}
 use Rattle.std.proofs.lemmas.List.{length-map}
 use Rattle.ladder_tree.specs.Leaves.{all_leaves}
 use Rattle.ladder_tree.specs.Names.{names_of}
@@ -55,6 +55,11 @@ apart n q e = rw e (names_apart q.rungs)
 abbrev pub layout : Names → Project → Layout
 layout n q = layout_of n q.cycle (any_master (all_leaves q.rungs))
 
+-- a layout that has the names, the cycle and the master relay
+pub laid : (n : Names) (q : Project) (p : Layout) (cycle : ℕ) (master : Bool) → p ≡ layout_of n cycle master → cycle ≡ q.cycle
+    → master ≡ any_master (all_leaves q.rungs) → p ≡ layout n q
+laid n q p cycle master e f g = rw (e, f, g) refl
+
 pub named : (n : Names) (q : Project) → CanLower n q → AllNamed (layout n q) (all_leaves q.rungs)
 named n q l = rw l.names (names_named q.rungs q.cycle l.named)
 
@@ -79,7 +84,8 @@ few_wires n q l =
     let d = rungs_nested q.rungs in let e = l.depth in
     omega arith
 
-formed : (n : Names) (q : Project) (p : IntProgram) → CanLower n q → HasSizes n q p → p.bits ≡ p.kept_bits + wires (layout n q) (nesting_of_all q.rungs) → p.ops ≡ program_code (layout n q) q.rungs → IsWellFormed p
+formed : (n : Names) (q : Project) (p : IntProgram) → CanLower n q → HasSizes n q p → p.bits ≡ p.kept_bits + wires (layout n q) (nesting_of_all q.rungs)
+    → p.ops ≡ program_code (layout n q) q.rungs → IsWellFormed p
 formed n q p l s bits ops =
     let kept = s.kept in
     let i = s.inputs in let o = s.outputs in let a = s.analogs in let v = s.variables in let e = s.persistent in
@@ -92,14 +98,16 @@ formed n q p l s bits ops =
       starts = let b = ap length s.starts in omega (arith, b, length-map n.variables (start_number q.cycle (all_leaves q.rungs)));
     }
 
-roomy : (n : Names) (q : Project) (p : IntProgram) → CanLower n q → HasSizes n q p → p.ops ≡ program_code (layout n q) q.rungs → IsWithin (kinds p.kept_bits p.ops) (allowed q.rungs) → HasRoom p
+roomy : (n : Names) (q : Project) (p : IntProgram) → CanLower n q → HasSizes n q p → p.ops ≡ program_code (layout n q) q.rungs
+    → IsWithin (kinds p.kept_bits p.ops) (allowed q.rungs) → HasRoom p
 roomy n q p l s ops within =
     let f = within_lines p.kept_bits q.cycle p.ops q.rungs within l.fit in let size = l.size in
     let t = program_tabs (layout n q) q.rungs (ready n q l) in let lines = rungs_sized q.rungs in
     let k = (small n q l).kept in let kept = s.kept in let w = s.wires in
     record { ops = omega (arith, f, size); tabs = rw ops (omega (arith, t, lines, size)); bits = omega arith }
 
-pub lowered : (n : Names) (q : Project) (p : IntProgram) → CanLower n q → HasSizes n q p → p.bits ≡ p.kept_bits + wires (layout n q) (nesting_of_all q.rungs) → p.ops ≡ program_code (layout n q) q.rungs → IsLowered n q p
+pub lowered : (n : Names) (q : Project) (p : IntProgram) → CanLower n q → HasSizes n q p → p.bits ≡ p.kept_bits + wires (layout n q) (nesting_of_all q.rungs)
+    → p.ops ≡ program_code (layout n q) q.rungs → IsLowered n q p
 lowered n q p l s bits ops =
     let r = ready n q l in
     let uses = program_agrees (layout n q) q.rungs r in

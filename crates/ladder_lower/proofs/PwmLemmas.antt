@@ -86,4 +86,5 @@ leaf_agrees l ops f = record { duty = rw (f.duty, or-false) refl; hertz = f.hert
 
 pub program_agrees : (p : Layout) (gs : List Rung) → Ready p gs → Agrees (all_leaves gs) (program_code p gs)
 program_agrees p gs ready =
-    program_holds p (nesting_of_all gs) Agrees (agrees_shared p (nesting_of_all gs)) (λ l k apt lt. leaf_agrees l (element_code p l.kind k) (element_uses p l.kind k)) gs (omega arith) ready
+    program_holds p (nesting_of_all gs) Agrees (agrees_shared p (nesting_of_all gs))
+    (λ l k apt lt. leaf_agrees l (element_code p l.kind k) (element_uses p l.kind k)) gs (omega arith) ready

@@ -12,7 +12,8 @@ use Rattle.ladder_tree.specs.declared.element.CompareHow.TheVariants.{Equ, Neq, 
 use Rattle.ladder_tree.specs.declared.element.CompareHow.{CompareHow}
 use Rattle.ladder_tree.specs.declared.element.CounterHow.TheVariants.{Ctu, Ctd, Ctc}
 use Rattle.ladder_tree.specs.declared.element.CounterHow.{CounterHow}
-use Rattle.ladder_tree.specs.declared.element.LeafKind.TheVariants.{Contacts, Coil, Osr, Osf, Open, MasterRelay, Timer, Counter, Reset, Move, Math, Compare, Shift, Table, ReadAdc, SetPwm, Recv, Send, Persist}
+use Rattle.ladder_tree.specs.declared.element.LeafKind.TheVariants.{Contacts, Coil, Osr, Osf, Open, MasterRelay, Timer, Counter, Reset, Move, Math, Compare}
+use Rattle.ladder_tree.specs.declared.element.LeafKind.TheVariants.{Shift, Table, ReadAdc, SetPwm, Recv, Send, Persist}
 use Rattle.ladder_tree.specs.declared.element.LeafKind.{LeafKind}
 use Rattle.ladder_tree.specs.declared.element.MathHow.TheVariants as math
 use Rattle.ladder_tree.specs.declared.element.MathHow.{MathHow}
@@ -28,7 +29,8 @@ use Rattle.int_code.specs.declared.op.IntOp.TheVariants.{Iflt, Els, Fi, Lit, Inc
 use Rattle.int_code.specs.declared.op.IntOp.{IntOp}
 use Rattle.int_code.specs.declared.op.NumSource.TheVariants.{V, N}
 use Rattle.int_code.specs.declared.op.NumSource.{NumSource}
-use Rattle.ladder_lower.specs.ElementCode.{coil_code, contact_code, timer_code, on_rise, reached, counter_code, where_power, move_op, math_op, compare_code, moves, persist_code, element_code}
+use Rattle.ladder_lower.specs.ElementCode.{coil_code, contact_code, timer_code, on_rise, reached, counter_code, where_power, move_op, math_op, compare_code}
+use Rattle.ladder_lower.specs.ElementCode.{moves, persist_code, element_code}
 use Rattle.ladder_lower.specs.Fit.{is_fit}
 use Rattle.ladder_lower.specs.Nesting.{nesting_of_all}
 use Rattle.ladder_lower.specs.NodeCode.{program_code}
@@ -74,7 +76,8 @@ module _ (p : Layout) (z : Sizes) where
   dest_in : (d : ℕ) (name : List ℕ) → IsHeld p name → Spans p d z → IsDest z (dest_of p name)
   dest_in d name = dest_in_by d (is_output name) name refl
 
-  source_in_by : (d : ℕ) (x y : Bool) (name : List ℕ) → cond x (held p.inputs name) (cond y (held p.outputs name) (held p.relays name)) ≡ true → Spans p d z → IsSource z (source_by x y p name)
+  source_in_by : (d : ℕ) (x y : Bool) (name : List ℕ) → cond x (held p.inputs name) (cond y (held p.outputs name) (held p.relays name)) ≡ true → Spans p d z
+      → IsSource z (source_by x y p name)
   source_in_by d true y name h s = let lt = place_below p.inputs name h in let i = s.inputs in omega arith
   source_in_by d false true name h s = let lt = place_below p.outputs name h in let o = s.outputs in omega arith
   source_in_by d false false name h s = let lt = place_below p.relays name h in let b = s.bits in omega arith
@@ -105,8 +108,12 @@ module _ (p : Layout) (z : Sizes) where
   rise_in d k ops lt h s = let b = s.bits in (omega arith, (omega arith, in_append ops _ h (tt, (tt, ((omega arith, omega arith), tt)))))
 
   counter_in : (d : ℕ) (how : CounterHow) (v : ℕ) (max : ℤ) (k : ℕ) → v < z.variables → k + 1 ≤ p.memories → Spans p d z → AllIn (counter_code p how v max k)
-  counter_in d Ctu v max k lt le s = let b = s.bits in in_append (on_rise p k (Inc v ∷ [])) (reached p v max) (rise_in d k (Inc v ∷ []) le (lt, tt) s) (omega arith, ((lt, tt), (omega arith, (tt, tt))))
-  counter_in d Ctd v max k lt le s = let b = s.bits in in_append (on_rise p k (Dec v ∷ [])) (reached p v max) (rise_in d k (Dec v ∷ []) le (lt, tt) s) (omega arith, ((lt, tt), (omega arith, (tt, tt))))
+  counter_in d Ctu v max k lt le s =
+      let b = s.bits in in_append (on_rise p k (Inc v ∷ [])) (reached p v max) (rise_in d k (Inc v ∷ []) le (lt, tt) s)
+      (omega arith, ((lt, tt), (omega arith, (tt, tt))))
+  counter_in d Ctd v max k lt le s =
+      let b = s.bits in in_append (on_rise p k (Dec v ∷ [])) (reached p v max) (rise_in d k (Dec v ∷ []) le (lt, tt) s)
+      (omega arith, ((lt, tt), (omega arith, (tt, tt))))
   counter_in d Ctc v max k lt le s = rise_in d k (Iflt (V v) (N max) ∷ Inc v ∷ Els ∷ Lit v (pos 0) ∷ Fi ∷ []) le ((lt, tt), (lt, (tt, (lt, (tt, tt))))) s
 
   where_in : (d : ℕ) (op : IntOp) → IsInRange z op → Spans p d z → AllIn (where_power p op)
@@ -146,19 +153,29 @@ module _ (p : Layout) (z : Sizes) where
       let lt = place_below p.persistent name k in
       let q = s.persistent in (
         omega arith,
-        (omega arith, (omega arith, (omega arith, ((v, omega arith), (tt, ((v, omega arith), (tt, (tt, ((v, omega arith), (omega arith, (tt, (tt, (tt, tt))))))))))))),
+        (
+          omega arith,
+          (
+            omega arith,
+            (omega arith, ((v, omega arith), (tt, ((v, omega arith), (tt, (tt, ((v, omega arith), (omega arith, (tt, (tt, (tt, tt))))))))))),
+          ),
+        ),
       )
 
-  table_in : (d : ℕ) (to : List ℕ) (index : Operand) (values : List ℤ) → AllHeld p.variables (to ∷ operand_names index) → nat_le (length values) 60 ≡ true → Spans p d z → IsInRange z (Tab (variable_of p to) (number_of p index) values)
+  table_in : (d : ℕ) (to : List ℕ) (index : Operand) (values : List ℤ) → AllHeld p.variables (to ∷ operand_names index) → nat_le (length values) 60 ≡ true
+      → Spans p d z → IsInRange z (Tab (variable_of p to) (number_of p index) values)
   table_in d to index values h e s = (variable_in d to h.0 s, operand_in d index h.1 s, grind (arith, nat_tests, e))
 
-  element_in : (d : ℕ) (kind : LeafKind) (k : ℕ) → k + memories kind ≤ p.memories → IsNamed p kind → is_fit p.cycle kind ≡ true → Spans p d z → AllIn (element_code p kind k)
+  element_in : (d : ℕ) (kind : LeafKind) (k : ℕ) → k + memories kind ≤ p.memories → IsNamed p kind → is_fit p.cycle kind ≡ true → Spans p d z
+      → AllIn (element_code p kind k)
   element_in d (Contacts name neg) k lt h e s = contact_in d neg name (source_in_by d (is_input name) (is_output name) name h.place s) s
   element_in d (Coil name how) k lt h e s = coil_in d how name h.place s
   element_in d Osr k lt h e s = let b = s.bits in ((omega arith, omega arith), (omega arith, (omega arith, (tt, ((omega arith, omega arith), tt)))))
-  element_in d Osf k lt h e s = let b = s.bits in ((omega arith, omega arith), ((omega arith, omega arith), (omega arith, (omega arith, (tt, ((omega arith, omega arith), tt))))))
+  element_in d Osf k lt h e s =
+      let b = s.bits in ((omega arith, omega arith), ((omega arith, omega arith), (omega arith, (omega arith, (tt, ((omega arith, omega arith), tt))))))
   element_in d Open k lt h e s = let b = s.bits in (omega arith, tt)
-  element_in d MasterRelay k lt h e s = let one : masters p ≡ 1 = ap (λ b. cond b 1 0) h.place in let b = s.bits in (omega arith, (omega arith, (tt, ((omega arith, omega arith), tt))))
+  element_in d MasterRelay k lt h e s =
+      let one : masters p ≡ 1 = ap (λ b. cond b 1 0) h.place in let b = s.bits in (omega arith, (omega arith, (tt, ((omega arith, omega arith), tt))))
   element_in d (Timer how name delay) k lt h e s = timer_in d how _ _ (variable_in d name h.variables.0 s) s
   element_in d (Counter how name max) k lt h e s = counter_in d how _ max k (variable_in d name h.variables.0 s) lt s
   element_in d (Reset name) k lt h e s = where_in d (Lit (variable_of p name) (pos 0)) (variable_in d name h.variables.0 s) s
@@ -172,10 +189,14 @@ module _ (p : Layout) (z : Sizes) where
       let y = operand_in d b (all_held_back p.variables (operand_names a) (operand_names b) h.variables) s in
       compare_in d how _ _ x y s
   element_in d (Shift name places) k lt h e s = rise_in d k _ lt (moves_in d name places h.variables s) s
-  element_in d (Table to index as_text values) k lt h e s = where_in d (Tab (variable_of p to) (number_of p index) values) (table_in d to index values h.variables (first_true (nat_le (length values) 60) _ e) s) s
-  element_in d (ReadAdc name) k lt h e s = where_in d (Adc (variable_of p name) (place_of p.analog name)) (variable_in d name h.variables.0 s, (let at = place_below p.analog name h.place in let a = s.analogs in omega arith)) s
+  element_in d (Table to index as_text values) k lt h e s =
+      where_in d (Tab (variable_of p to) (number_of p index) values) (table_in d to index values h.variables (first_true (nat_le (length values) 60) _ e) s) s
+  element_in d (ReadAdc name) k lt h e s =
+      where_in d (Adc (variable_of p name) (place_of p.analog name))
+      (variable_in d name h.variables.0 s, (let at = place_below p.analog name h.place in let a = s.analogs in omega arith)) s
   element_in d (SetPwm name hz) k lt h e s = where_in d (Pwm (V (variable_of p name)) hz) (variable_in d name h.variables.0 s) s
-  element_in d (Recv name) k lt h e s = let b = s.bits in where_in d (Rx (variable_of p name) (dest.B (power p))) (variable_in d name h.variables.0 s, omega arith) s
+  element_in d (Recv name) k lt h e s =
+      let b = s.bits in where_in d (Rx (variable_of p name) (dest.B (power p))) (variable_in d name h.variables.0 s, omega arith) s
   element_in d (Send name) k lt h e s = let b = s.bits in ((variable_in d name h.variables.0 s, omega arith, omega arith), tt)
   element_in d (Persist name) k lt h e s = persist_in d name h.variables.0 h.place s
   element_in d _ k lt h e s = tt
@@ -192,4 +213,6 @@ module _ (p : Layout) (z : Sizes) where
     }
 
     pub program_in : (gs : List Rung) → nesting_of_all gs ≤ deep → Ready p gs → All (IsInRange z) (program_code p gs)
-    program_in gs le ready = All-from_recursion (IsInRange z) (program_code p gs) (program_holds p deep (λ ls ops. AllIn ops) shared (λ l k apt lt. element_in deep l.kind k lt apt.named apt.fit s) gs le ready)
+    program_in gs le ready =
+        All-from_recursion (IsInRange z) (program_code p gs)
+        (program_holds p deep (λ ls ops. AllIn ops) shared (λ l k apt lt. element_in deep l.kind k lt apt.named apt.fit s) gs le ready)

@@ -26,7 +26,8 @@ both a b v x y e f = cc
 shifted : (a i j : ℕ) → nat_eq (a + i) (a + j) ≡ nat_eq i j
 shifted a i j = grind (arith, nat_tests)
 
-pub wire_write : (p : Layout) (s : Now) (t : Store) (j : ℕ) (v : Bool) → (p.has_master ≡ true → j ≢ 1) → Stands p s t → Stands p s (with t (dest.B (wire p j)) v)
+pub wire_write : (p : Layout) (s : Now) (t : Store) (j : ℕ) (v : Bool) → (p.has_master ≡ true → j ≢ 1) → Stands p s t
+    → Stands p s (with t (dest.B (wire p j)) v)
 wire_write p s t j v ne sh = record {
   relays = λ n y h. other (wire p j) (place_of p.relays n) v _ (let lt = place_below p.relays n h in omega (arith, lt)) ∙ sh.relays n y h;
   outputs = sh.outputs;
@@ -38,7 +39,8 @@ wire_write p s t j v ne sh = record {
   plain = sh.plain;
 }
 
-pub master_write : (p : Layout) (s : Now) (t : Store) (v : Bool) → p.has_master ≡ true → Stands p s t → Stands p (with_master s v) (with t (dest.B (master p)) v)
+pub master_write : (p : Layout) (s : Now) (t : Store) (v : Bool) → p.has_master ≡ true → Stands p s t
+    → Stands p (with_master s v) (with t (dest.B (master p)) v)
 master_write p s t v has sh = record {
   relays = λ n y h. other (master p) (place_of p.relays n) v _ (let lt = place_below p.relays n h in omega (arith, lt)) ∙ sh.relays n y h;
   outputs = sh.outputs;
@@ -50,7 +52,8 @@ master_write p s t v has sh = record {
   plain = λ h. absurd (cc);
 }
 
-pub memory_write : (p : Layout) (s : Now) (t : Store) (k : ℕ) (v : Bool) → k < p.memories → Stands p s t → Stands p (with_memory s k v) (with t (dest.B (memory_bit p k)) v)
+pub memory_write : (p : Layout) (s : Now) (t : Store) (k : ℕ) (v : Bool) → k < p.memories → Stands p s t
+    → Stands p (with_memory s k v) (with t (dest.B (memory_bit p k)) v)
 memory_write p s t k v within sh = record {
   relays = λ n y h. other (memory_bit p k) (place_of p.relays n) v _ (let lt = place_below p.relays n h in omega (arith, lt)) ∙ sh.relays n y h;
   outputs = sh.outputs;
@@ -63,7 +66,8 @@ memory_write p s t k v within sh = record {
 }
 
 -- a persistent variable has its start flag
-pub flag_write : (p : Layout) (s : Now) (t : Store) (name : List ℕ) → held p.persistent name ≡ true → Stands p s t → Stands p (with_loaded s name) (with t (dest.B (flag_bit p name)) true)
+pub flag_write : (p : Layout) (s : Now) (t : Store) (name : List ℕ) → held p.persistent name ≡ true → Stands p s t
+    → Stands p (with_loaded s name) (with t (dest.B (flag_bit p name)) true)
 flag_write p s t name is sh =
     let below = place_below p.persistent name is in
     record {
@@ -80,7 +84,8 @@ flag_write p s t name is sh =
 apart_kinds : (a b : List ℕ) (y : Bool) → is_output a ≡ y → (is_output b ≡ y → ⊥) → bytes_eq a b ≡ false
 apart_kinds a b y e ne = grind (arith, bytes_tells)
 
-write_by : (p : Layout) (s : Now) (t : Store) (name : List ℕ) (v y : Bool) → is_output name ≡ y → IsHeld p name → Stands p s t → Stands p (with_bit s name v) (with t (dest_by y p name) v)
+write_by : (p : Layout) (s : Now) (t : Store) (name : List ℕ) (v y : Bool) → is_output name ≡ y → IsHeld p name → Stands p s t
+    → Stands p (with_bit s name v) (with t (dest_by y p name) v)
 write_by p s t name v true e h sh = record {
   relays = λ n y k. sh.relays n y k ∙ sym (ap (λ b. cond b v (s.kept.bit n)) (apart_kinds name n true e (λ f. cc)));
   outputs = λ n y k. both _ _ v _ _ (place_apart p.outputs name n (rw e at h)) (sh.outputs n y k);
@@ -104,10 +109,12 @@ write_by p s t name v false e h sh =
       plain = sh.plain;
     }
 
-pub name_write : (p : Layout) (s : Now) (t : Store) (name : List ℕ) (v : Bool) → IsHeld p name → Stands p s t → Stands p (with_bit s name v) (with t (dest_of p name) v)
+pub name_write : (p : Layout) (s : Now) (t : Store) (name : List ℕ) (v : Bool) → IsHeld p name → Stands p s t
+    → Stands p (with_bit s name v) (with t (dest_of p name) v)
 name_write p s t name v h sh = write_by p s t name v (is_output name) refl h sh
 
-pub number_write : (p : Layout) (s : Now) (t : Store) (name : List ℕ) (n : ℤ) → held p.variables name ≡ true → Stands p s t → Stands p (with_number s name n) (store.with_number t (variable_of p name) n)
+pub number_write : (p : Layout) (s : Now) (t : Store) (name : List ℕ) (n : ℤ) → held p.variables name ≡ true → Stands p s t
+    → Stands p (with_number s name n) (store.with_number t (variable_of p name) n)
 number_write p s t name n h sh = record {
   relays = sh.relays;
   outputs = sh.outputs;

@@ -3,15 +3,42 @@ use Rattle.std.specs.Prelude.{ℕ, Bool, true, false, List, [], ◌∷◌}
 use Rattle.std.specs.List.{list_any, flat_map}
 use Rattle.ladder_tree.specs.declared.element.Leaf as leaf
 use Rattle.ladder_tree.specs.declared.element.LeafKind.{LeafKind}
-use Rattle.ladder_tree.specs.declared.element.LeafKind.TheVariants.{SetPwm}
+use Rattle.ladder_tree.specs.declared.element.LeafKind.TheVariants.{Contacts, Coil, Osr, Osf, Short, Open, MasterRelay, Placeholder, Comment, Timer, Counter}
+use Rattle.ladder_tree.specs.declared.element.LeafKind.TheVariants.{Reset, Move, Math, Compare, Shift, Table, ReadAdc, SetPwm, Recv, Send, Persist, Linear}
+use Rattle.ladder_tree.specs.declared.element.LeafKind.TheVariants.{Formatted}
 use Rattle.ladder_rules.specs.Kinds.{is_uart}
 use Rattle.int_code.specs.declared.op.IntOp.{IntOp}
-use Rattle.int_code.specs.declared.op.IntOp.TheVariants.{Pwm, Rx, Tx}
+use Rattle.int_code.specs.declared.op.IntOp.TheVariants.{Set, Clr, Cpy, Not, Ifs, Ifc, Iflt, Ifeq, Ifee, Els, Fi, Lit, Mov, Add, Sub, Mul, Div, Inc, Dec, Adc}
+use Rattle.int_code.specs.declared.op.IntOp.TheVariants.{Pwm, Rx, Tx, Eebusy, Eerd, Eewr, Tab}
 
 abbrev pub is_serial : IntOp → Bool
 is_serial (Rx v b) = true
 is_serial (Tx w s b) = true
-is_serial op = false
+is_serial (Set b) = false
+is_serial (Clr b) = false
+is_serial (Cpy b s) = false
+is_serial (Not b s) = false
+is_serial (Ifs s) = false
+is_serial (Ifc s) = false
+is_serial (Iflt w u) = false
+is_serial (Ifeq w u) = false
+is_serial (Ifee v a) = false
+is_serial Els = false
+is_serial Fi = false
+is_serial (Lit v n) = false
+is_serial (Mov v from) = false
+is_serial (Add v w u) = false
+is_serial (Sub v w u) = false
+is_serial (Mul v w u) = false
+is_serial (Div v w u) = false
+is_serial (Inc v) = false
+is_serial (Dec v) = false
+is_serial (Adc v k) = false
+is_serial (Pwm w hz) = false
+is_serial (Eebusy b) = false
+is_serial (Eerd v a) = false
+is_serial (Eewr w a) = false
+is_serial (Tab v w values) = false
 
 -- whether an operation uses the serial line
 abbrev pub has_serial : List IntOp → Bool
@@ -23,7 +50,32 @@ has_uart ls = list_any (λ l. is_uart l.kind) ls
 
 abbrev pub hertz_of : IntOp → List ℕ
 hertz_of (Pwm w hz) = hz ∷ []
-hertz_of op = []
+hertz_of (Set b) = []
+hertz_of (Clr b) = []
+hertz_of (Cpy b s) = []
+hertz_of (Not b s) = []
+hertz_of (Ifs s) = []
+hertz_of (Ifc s) = []
+hertz_of (Iflt w u) = []
+hertz_of (Ifeq w u) = []
+hertz_of (Ifee v a) = []
+hertz_of Els = []
+hertz_of Fi = []
+hertz_of (Lit v n) = []
+hertz_of (Mov v from) = []
+hertz_of (Add v w u) = []
+hertz_of (Sub v w u) = []
+hertz_of (Mul v w u) = []
+hertz_of (Div v w u) = []
+hertz_of (Inc v) = []
+hertz_of (Dec v) = []
+hertz_of (Adc v k) = []
+hertz_of (Rx v b) = []
+hertz_of (Tx w s b) = []
+hertz_of (Eebusy b) = []
+hertz_of (Eerd v a) = []
+hertz_of (Eewr w a) = []
+hertz_of (Tab v w values) = []
 
 -- the hertz of the operations that set the duty, in order
 abbrev pub hertz_in : List IntOp → List ℕ
@@ -31,7 +83,29 @@ hertz_in ops = flat_map hertz_of ops
 
 abbrev pub hertz_at : LeafKind → List ℕ
 hertz_at (SetPwm name hz) = hz ∷ []
-hertz_at kind = []
+hertz_at (Contacts name neg) = []
+hertz_at (Coil name mode) = []
+hertz_at Osr = []
+hertz_at Osf = []
+hertz_at Short = []
+hertz_at Open = []
+hertz_at MasterRelay = []
+hertz_at Placeholder = []
+hertz_at (Comment text) = []
+hertz_at (Timer how name delay) = []
+hertz_at (Counter how name max) = []
+hertz_at (Reset name) = []
+hertz_at (Move dest src) = []
+hertz_at (Math how dest a b) = []
+hertz_at (Compare how a b) = []
+hertz_at (Shift name places) = []
+hertz_at (Table dest index as_text values) = []
+hertz_at (ReadAdc name) = []
+hertz_at (Recv name) = []
+hertz_at (Send name) = []
+hertz_at (Persist name) = []
+hertz_at (Linear dest index points) = []
+hertz_at (Formatted name text) = []
 
 -- the hertz of the SET_PWMs, in order
 abbrev pub hertz_wanted : List leaf.Leaf → List ℕ

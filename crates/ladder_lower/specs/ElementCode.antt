@@ -2,7 +2,9 @@
 use Rattle.std.specs.Prelude.{ℕ, zero, suc, Bool, true, false, List, [], ◌∷◌, ◌++◌, ℤ, pos}
 use Rattle.std.specs.Fmt.{decimal}
 use Rattle.ladder_tree.specs.declared.element.LeafKind.{LeafKind}
-use Rattle.ladder_tree.specs.declared.element.LeafKind.TheVariants.{Contacts, Coil, Osr, Osf, Short, Open, MasterRelay, Placeholder, Comment, Timer, Counter, Reset, Move, Math, Compare, Shift, Table, ReadAdc, SetPwm, Recv, Send, Persist, Linear, Formatted}
+use Rattle.ladder_tree.specs.declared.element.LeafKind.TheVariants.{Contacts, Coil, Osr, Osf, Short, Open, MasterRelay, Placeholder, Comment, Timer, Counter}
+use Rattle.ladder_tree.specs.declared.element.LeafKind.TheVariants.{Reset, Move, Math, Compare, Shift, Table, ReadAdc, SetPwm, Recv, Send, Persist, Linear}
+use Rattle.ladder_tree.specs.declared.element.LeafKind.TheVariants.{Formatted}
 use Rattle.ladder_tree.specs.declared.element.CoilMode.{CoilMode}
 use Rattle.ladder_tree.specs.declared.element.CoilMode.TheVariants as mode
 use Rattle.ladder_tree.specs.declared.element.CompareHow.{CompareHow}
@@ -20,7 +22,8 @@ use Rattle.int_code.specs.declared.op.BitSource.TheVariants as source
 use Rattle.int_code.specs.declared.op.NumSource.{NumSource}
 use Rattle.int_code.specs.declared.op.NumSource.TheVariants.{V, N}
 use Rattle.int_code.specs.declared.op.IntOp.{IntOp}
-use Rattle.int_code.specs.declared.op.IntOp.TheVariants.{Set, Clr, Cpy, Not, Ifs, Ifc, Iflt, Ifeq, Ifee, Els, Fi, Lit, Mov, Add, Sub, Mul, Div, Inc, Dec, Adc, Pwm, Rx, Tx, Eebusy, Eerd, Eewr, Tab}
+use Rattle.int_code.specs.declared.op.IntOp.TheVariants.{Set, Clr, Cpy, Not, Ifs, Ifc, Iflt, Ifeq, Ifee, Els, Fi, Lit, Mov, Add, Sub, Mul, Div, Inc, Dec, Adc}
+use Rattle.int_code.specs.declared.op.IntOp.TheVariants.{Pwm, Rx, Tx, Eebusy, Eerd, Eewr, Tab}
 use Rattle.ladder_lower.specs.declared.layout.Layout.{Layout}
 use Rattle.ladder_lower.specs.Wires.{dest_of, source_of, variable_of, number_of, memory_bit, flag_bit, power, master, spare}
 
@@ -49,9 +52,11 @@ contact_code p false name = cut_where p (Ifc (source_of p name))
 -- The spare wire keeps what comes in, since the memory is read before it becomes that. It is that of OSF where the flag is true.
 abbrev pub edge_code : Bool → Layout → ℕ → List IntOp
 edge_code false p k =
-    Cpy (dest.B (spare p)) (source.B (power p)) ∷ Ifs (source.B (memory_bit p k)) ∷ Clr (dest.B (power p)) ∷ Fi ∷ Cpy (dest.B (memory_bit p k)) (source.B (spare p)) ∷ []
+    Cpy (dest.B (spare p)) (source.B (power p)) ∷ Ifs (source.B (memory_bit p k)) ∷ Clr (dest.B (power p)) ∷ Fi
+    ∷ Cpy (dest.B (memory_bit p k)) (source.B (spare p)) ∷ []
 edge_code true p k =
-    Cpy (dest.B (spare p)) (source.B (power p)) ∷ Not (dest.B (power p)) (source.B (power p)) ∷ Ifc (source.B (memory_bit p k)) ∷ Clr (dest.B (power p)) ∷ Fi ∷ Cpy (dest.B (memory_bit p k)) (source.B (spare p)) ∷ []
+    Cpy (dest.B (spare p)) (source.B (power p)) ∷ Not (dest.B (power p)) (source.B (power p)) ∷ Ifc (source.B (memory_bit p k)) ∷ Clr (dest.B (power p)) ∷ Fi
+    ∷ Cpy (dest.B (memory_bit p k)) (source.B (spare p)) ∷ []
 
 -- TON counts where there is power and it is not at its limit, and then switches it off; without power it begins anew.
 -- TOF begins anew where there is power; without it, it counts and switches the power on until it is at its limit.

@@ -46,7 +46,9 @@ others_code p (a ∷ rest) = record {
 abbrev pub fork_code : Layout → Piece → Piece → Piece
 fork_code p a others = record {
   memories = a.memories + others.memories;
-  code = λ d k. Cpy (dest.B (in_wire p d)) (source.B (power p)) ∷ (a.code (d + 1) k ++ (Cpy (dest.B (or_wire p d)) (source.B (power p)) ∷ others.code d (k + a.memories)));
+  code =
+      λ d k. Cpy (dest.B (in_wire p d)) (source.B (power p))
+      ∷ (a.code (d + 1) k ++ (Cpy (dest.B (or_wire p d)) (source.B (power p)) ∷ others.code d (k + a.memories)));
 }
 
 -- no branch gives false, and one branch is that branch

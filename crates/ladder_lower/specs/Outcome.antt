@@ -16,7 +16,8 @@ use Rattle.int_code.specs.Lowered.{allowed}
 use Rattle.int_code.specs.Uses.{has_pwm}
 use Rattle.int_code.specs.WellFormed.{IsWellFormed}
 use Rattle.int_code.specs.declared.op.IntOp.{IntOp}
-use Rattle.int_code.specs.declared.op.IntOp.TheVariants.{Tab}
+use Rattle.int_code.specs.declared.op.IntOp.TheVariants.{Set, Clr, Cpy, Not, Ifs, Ifc, Iflt, Ifeq, Ifee, Els, Fi, Lit, Mov, Add, Sub, Mul, Div, Inc, Dec, Adc}
+use Rattle.int_code.specs.declared.op.IntOp.TheVariants.{Pwm, Rx, Tx, Eebusy, Eerd, Eewr, Tab}
 use Rattle.int_code.specs.declared.op.IntProgram.{IntProgram}
 use Rattle.ladder_lower.specs.Careful.{IsCareful}
 use Rattle.ladder_lower.specs.Correct.{KeepsHistory}
@@ -57,7 +58,32 @@ pub record IsSmall (n : Names) : Type 0 where
 
 abbrev pub tabs_of : IntOp → ℕ
 tabs_of (Tab v w values) = 1
-tabs_of op = 0
+tabs_of (Set b) = 0
+tabs_of (Clr b) = 0
+tabs_of (Cpy b s) = 0
+tabs_of (Not b s) = 0
+tabs_of (Ifs s) = 0
+tabs_of (Ifc s) = 0
+tabs_of (Iflt w u) = 0
+tabs_of (Ifeq w u) = 0
+tabs_of (Ifee v a) = 0
+tabs_of Els = 0
+tabs_of Fi = 0
+tabs_of (Lit v n) = 0
+tabs_of (Mov v from) = 0
+tabs_of (Add v w u) = 0
+tabs_of (Sub v w u) = 0
+tabs_of (Mul v w u) = 0
+tabs_of (Div v w u) = 0
+tabs_of (Inc v) = 0
+tabs_of (Dec v) = 0
+tabs_of (Adc v k) = 0
+tabs_of (Pwm w hz) = 0
+tabs_of (Rx v b) = 0
+tabs_of (Tx w s b) = 0
+tabs_of (Eebusy b) = 0
+tabs_of (Eerd v a) = 0
+tabs_of (Eewr w a) = 0
 
 -- how many operations look a value up in a table
 abbrev pub tabs_in : List IntOp → ℕ

@@ -2,11 +2,12 @@
 
 ghost use Rattle.std.specs.Prelude.{◌≡◌, ◌++◌, OnOk};
 ghost use Rattle.ladder_tree.specs.declared.element.LeafKind.{LeafKind};
-ghost use Rattle.ladder_lower.specs.ElementCode.{element_code, persist_code, save_code};
+ghost use Rattle.ladder_lower.specs.ElementCode.{element_code, persist_code};
 ghost use Rattle.ladder_lower.specs.Wires.{Fits};
 
 use crate::layout::Layout;
 use crate::power::emit_where_power;
+use crate::push::push_all;
 use int_code::op::{BitDest, BitSource, IntOp, NumSource, Ops};
 use ladder_tree::element::Name;
 use std::alloc::AllocError;
@@ -63,38 +64,33 @@ pub fn emit_persist(ops: &mut Ops, layout: &Layout<'_>, name: &Name) -> Result<(
     let a = layout.persistent_of(name);
     let flag = layout.flag_bit(name);
     let spare = layout.spare();
-    ops.push(IntOp::Ifs {
-        s: BitSource::B(layout.power()),
-    })?;
-    ops.push(IntOp::Eebusy {
-        b: BitDest::B(spare),
-    })?;
-    ops.push(IntOp::Ifc {
-        s: BitSource::B(spare),
-    })?;
-    ops.push(IntOp::Ifs {
-        s: BitSource::B(flag),
-    })?;
-    emit_save(ops, v, a)?;
-    ops.push(IntOp::Els)?;
-    ops.push(IntOp::Eerd { v, a })?;
-    ops.push(IntOp::Set {
-        b: BitDest::B(flag),
-    })?;
-    ops.push(IntOp::Fi)?;
-    ops.push(IntOp::Fi)?;
-    ops.push(IntOp::Fi)
-}
-
-/// The variable is written where the EEPROM holds another number.
-fn emit_save(ops: &mut Ops, v: u32, a: u32) -> Result<(), AllocError>
-    ensures { OnOk result (ops.new ≡ ops.old ++ save_code v a) }
-{
-    ops.push(IntOp::Ifee { v, a })?;
-    ops.push(IntOp::Els)?;
-    ops.push(IntOp::Eewr {
-        w: NumSource::V(v),
-        a,
-    })?;
-    ops.push(IntOp::Fi)
+    let power = BitSource::B(layout.power());
+    let busy = BitSource::B(spare);
+    let loaded = BitSource::B(flag);
+    push_all(
+        ops,
+        [
+            IntOp::Ifs { s: power },
+            IntOp::Eebusy {
+                b: BitDest::B(spare),
+            },
+            IntOp::Ifc { s: busy },
+            IntOp::Ifs { s: loaded },
+            IntOp::Ifee { v, a },
+            IntOp::Els,
+            IntOp::Eewr {
+                w: NumSource::V(v),
+                a,
+            },
+            IntOp::Fi,
+            IntOp::Els,
+            IntOp::Eerd { v, a },
+            IntOp::Set {
+                b: BitDest::B(flag),
+            },
+            IntOp::Fi,
+            IntOp::Fi,
+            IntOp::Fi,
+        ],
+    )
 }

@@ -1,6 +1,6 @@
 //! The operations of elements. An element finds its input on the power wire, and leaves its output there.
 
-ghost use Rattle.std.specs.Prelude.{◌≡◌, ◌≢◌, ◌+◌, ◌<◌, ◌≤◌, ◌++◌, true, IfOk, OnOk};
+ghost use Rattle.std.specs.Prelude.{◌≡◌, ◌≢◌, ◌+◌, ◌<◌, ◌≤◌, ◌++◌, true, false, IfOk, OnOk};
 ghost use Rattle.ladder_tree.specs.Names.{memories};
 ghost use Rattle.ladder_tree.specs.declared.element.LeafKind.{LeafKind};
 ghost use Rattle.ladder_lower.specs.ElementCode.{coil_code, contact_code, edge_code, element_code};
@@ -14,6 +14,7 @@ use crate::numbers::{
     emit_timer,
 };
 use crate::power::{emit_cut_where, emit_where_power};
+use crate::push::push_all;
 use int_code::op::{BitDest, BitSource, IntOp, Ops};
 use ladder_tree::element::{CoilMode, LeafKind, Name};
 use ladder_tree::names::memories;
@@ -55,8 +56,8 @@ fn emit_kind(
     match kind {
         LeafKind::Contacts { name, neg } => emit_contact(ops, layout, *neg, name),
         LeafKind::Coil { name, mode } => emit_coil(ops, layout, *mode, name),
-        LeafKind::Osr => emit_edge(ops, layout, memory, false),
-        LeafKind::Osf => emit_edge(ops, layout, memory, true),
+        LeafKind::Osr => emit_rising(ops, layout, memory),
+        LeafKind::Osf => emit_falling(ops, layout, memory),
         LeafKind::Open => emit_open(ops, layout),
         LeafKind::MasterRelay => emit_master(ops, layout),
         LeafKind::Timer { how, name, delay } => {
@@ -124,43 +125,68 @@ fn emit_coil(
     }
 }
 
-/// The power is kept on the spare wire as it came, and becomes the memory. OSR switches the power off where the memory
-/// is true. OSF turns the power round, and switches it off where the memory is false.
-fn emit_edge(
-    ops: &mut Ops,
-    layout: &Layout<'_>,
-    memory: u32,
-    is_falling: bool,
-) -> Result<(), AllocError>
+/// The power is kept on the spare wire as it came, and becomes the memory. It is switched off where the memory is true.
+fn emit_rising(ops: &mut Ops, layout: &Layout<'_>, memory: u32) -> Result<(), AllocError>
     requires fits { Fits layout.now 0 }
     requires room { memory < layout.now.memories }
-    ensures { OnOk result (ops.new ≡ ops.old ++ edge_code is_falling layout.now memory) }
+    ensures { OnOk result (ops.new ≡ ops.old ++ edge_code false layout.now memory) }
 {
     let power = layout.power();
     let spare = layout.spare();
     let kept = layout.memory_bit(memory);
-    let s = BitSource::B(kept);
-    ops.push(IntOp::Cpy {
-        b: BitDest::B(spare),
-        s: BitSource::B(power),
-    })?;
-    if is_falling {
-        ops.push(IntOp::Not {
-            b: BitDest::B(power),
-            s: BitSource::B(power),
-        })?;
-        ops.push(IntOp::Ifc { s })?;
-    } else {
-        ops.push(IntOp::Ifs { s })?;
-    }
-    ops.push(IntOp::Clr {
-        b: BitDest::B(power),
-    })?;
-    ops.push(IntOp::Fi)?;
-    ops.push(IntOp::Cpy {
-        b: BitDest::B(kept),
-        s: BitSource::B(spare),
-    })
+    push_all(
+        ops,
+        [
+            IntOp::Cpy {
+                b: BitDest::B(spare),
+                s: BitSource::B(power),
+            },
+            IntOp::Ifs {
+                s: BitSource::B(kept),
+            },
+            IntOp::Clr {
+                b: BitDest::B(power),
+            },
+            IntOp::Fi,
+            IntOp::Cpy {
+                b: BitDest::B(kept),
+                s: BitSource::B(spare),
+            },
+        ],
+    )
+}
+
+/// The power is kept on the spare wire as it came, and becomes the memory. It is turned round, and switched off where the
+/// memory is false.
+fn emit_falling(ops: &mut Ops, layout: &Layout<'_>, memory: u32) -> Result<(), AllocError>
+    requires fits { Fits layout.now 0 }
+    requires room { memory < layout.now.memories }
+    ensures { OnOk result (ops.new ≡ ops.old ++ edge_code true layout.now memory) }
+{
+    let power = layout.power();
+    let spare = layout.spare();
+    let kept = layout.memory_bit(memory);
+    let s = BitSource::B(power);
+    let b = BitDest::B(power);
+    push_all(
+        ops,
+        [
+            IntOp::Cpy {
+                b: BitDest::B(spare),
+                s,
+            },
+            IntOp::Not { b, s },
+            IntOp::Ifc {
+                s: BitSource::B(kept),
+            },
+            IntOp::Clr { b },
+            IntOp::Fi,
+            IntOp::Cpy {
+                b: BitDest::B(kept),
+                s: BitSource::B(spare),
+            },
+        ],
+    )
 }
 
 /// OPEN switches the power off.
@@ -179,11 +205,19 @@ fn emit_master(ops: &mut Ops, layout: &Layout<'_>) -> Result<(), AllocError>
     requires { Fits layout.now 0 }
     ensures { OnOk result (ops.new ≡ ops.old ++ element_code layout.now LeafKind.MasterRelay 0) }
 {
+    let s = BitSource::B(layout.power());
     let master = layout.master();
     let b = BitDest::B(master);
-    emit_where_power(ops, layout, IntOp::Clr { b })?;
-    ops.push(IntOp::Not {
-        b,
-        s: BitSource::B(master),
-    })
+    push_all(
+        ops,
+        [
+            IntOp::Ifs { s },
+            IntOp::Clr { b },
+            IntOp::Fi,
+            IntOp::Not {
+                b,
+                s: BitSource::B(master),
+            },
+        ],
+    )
 }

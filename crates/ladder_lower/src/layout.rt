@@ -1,11 +1,12 @@
 //! Where names, memories and wires stand among the numbered bits and variables. The bits are relays, then memories, then
 //! start flags, then wires.
 
-ghost use Rattle.std.specs.Prelude.{◌≡◌, ◌≢◌, ◌+◌, ◌^◌, ◌<◌, ◌≤◌, pos, IfOk};
+ghost use Rattle.std.specs.Prelude.{◌≡◌, ◌≢◌, ◌+◌, ◌^◌, ◌<◌, ◌≤◌, pos, OnOk};
 ghost use Rattle.ladder_meaning.specs.Numbers.{period};
 ghost use Rattle.ladder_meaning.specs.State.{place_of};
 ghost use Rattle.ladder_lower.specs.Apart.{EachApart};
-ghost use Rattle.ladder_lower.specs.Wires.{Fits, layout_of, dest_of, source_of, variable_of, number_of, memory_bit, flag_bit, wire, power, masters, master, spares, spare, wires, in_wire, or_wire};
+ghost use Rattle.ladder_lower.specs.Wires.{Fits, layout_of, dest_of, source_of, variable_of, number_of, memory_bit, flag_bit, wire};
+ghost use Rattle.ladder_lower.specs.Wires.{power, masters, master, spares, spare, wires, in_wire, or_wire};
 
 use crate::places::Places;
 use int_code::op::{BitDest, BitSource, NumSource};
@@ -28,27 +29,36 @@ pub struct Layout<'n> {
 }
 
 impl<'n> Layout<'n> {
-    /// The layout of a project's names.
-    pub fn new(
-        alloc: Global,
-        names: &'n Names,
-        cycle: u32,
-        has_master: bool,
-    ) -> Result<Layout<'n>, AllocError>
-        requires { EachApart names.now }
-        ensures { IfOk result (λ p. p ≡ layout_of names.now cycle has_master) }
+    /// The layout of no names.
+    pub fn empty(alloc: Global, cycle: u32, has_master: bool) -> Layout<'n>
+        ensures cycle { result.cycle ≡ cycle }
+        ensures master { result.has_master ≡ has_master }
     {
-        Ok(Layout {
-            inputs: Places::new(alloc, names.inputs.as_slice())?,
-            outputs: Places::new(alloc, names.outputs.as_slice())?,
-            relays: Places::new(alloc, names.relays.as_slice())?,
-            variables: Places::new(alloc, names.variables.as_slice())?,
-            analog: Places::new(alloc, names.analog.as_slice())?,
-            persistent: Places::new(alloc, names.persistent.as_slice())?,
-            memories: names.memories,
+        Layout {
+            inputs: Places::new(alloc),
+            outputs: Places::new(alloc),
+            relays: Places::new(alloc),
+            variables: Places::new(alloc),
+            analog: Places::new(alloc),
+            persistent: Places::new(alloc),
+            memories: 0,
             cycle,
             has_master,
-        })
+        }
+    }
+
+    /// Has these names, and no others.
+    pub fn hold(&mut self, names: &'n Names) -> Result<(), AllocError>
+        requires { EachApart names.now }
+        ensures { OnOk result (self.new ≡ layout_of names.now self.old.cycle self.old.has_master) }
+    {
+        self.memories = names.memories;
+        self.inputs.hold(names.inputs.as_slice())?;
+        self.outputs.hold(names.outputs.as_slice())?;
+        self.relays.hold(names.relays.as_slice())?;
+        self.variables.hold(names.variables.as_slice())?;
+        self.analog.hold(names.analog.as_slice())?;
+        self.persistent.hold(names.persistent.as_slice())
     }
 
     /// The bit that a coil writes.

@@ -9,5 +9,6 @@ mod numbers;
 mod places;
 mod power;
 pub mod program;
+mod push;
 mod starts;
 mod survey;

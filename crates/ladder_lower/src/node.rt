@@ -9,6 +9,7 @@ ghost use Rattle.ladder_lower.specs.Wires.{Fits};
 
 use crate::element::emit_element;
 use crate::layout::Layout;
+use crate::push::push_all;
 use int_code::op::{BitDest, BitSource, IntOp, Ops};
 use ladder_tree::project::Node;
 use std::alloc::{AllocError, Global};
@@ -149,9 +150,7 @@ fn emit_join(
     let power = layout.power();
     let or = layout.or_wire(depth);
     let (from, to) = if is_last { (or, power) } else { (power, or) };
-    ops.push(IntOp::Ifs {
-        s: BitSource::B(from),
-    })?;
-    ops.push(IntOp::Set { b: BitDest::B(to) })?;
-    ops.push(IntOp::Fi)
+    let s = BitSource::B(from);
+    let b = BitDest::B(to);
+    push_all(ops, [IntOp::Ifs { s }, IntOp::Set { b }, IntOp::Fi])
 }

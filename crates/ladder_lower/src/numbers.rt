@@ -1,16 +1,18 @@
 //! The operations of elements that work on variables: timers, counters, arithmetic, comparisons and shift registers.
 
-ghost use Rattle.std.specs.Prelude.{◌≡◌, ◌<◌, [], ◌∷◌, ◌++◌, pos, OnOk};
+ghost use Rattle.std.specs.Prelude.{◌≡◌, ◌<◌, [], ◌∷◌, ◌++◌, pos, OnOk, IfOk};
+ghost use Rattle.std.specs.Fmt.{decimal};
 ghost use Rattle.ladder_lower.specs.ElementCode.{timer_code, reached, counter_code, on_rise, where_power, move_op, math_op, compare_code, moves};
 ghost use Rattle.ladder_lower.specs.Wires.{Fits, variable_of, number_of};
+ghost use Rattle.ladder_tree.specs.declared.element.CounterHow.{CounterHow};
 ghost use Rattle.ladder_tree.specs.declared.element.TimerHow.{TimerHow};
 ghost use Rattle.int_code.specs.declared.op.IntOp.{IntOp};
-ghost use Rattle.int_code.specs.declared.op.NumSource.{NumSource};
 
 use crate::layout::Layout;
 use crate::power::{
-    emit_cut_unless, emit_cut_where, emit_on_rise, emit_rise_end, emit_rise_start, emit_where_power,
+    emit_cut_unless, emit_cut_where, emit_rise_end, emit_rise_start, emit_where_power,
 };
+use crate::push::push_all;
 use int_code::op::{BitDest, BitSource, IntOp, NumSource, Ops};
 use ladder_tree::element::{CompareHow, CounterHow, MathHow, Name, Nums, Operand, TimerHow};
 use ladder_tree::names::numbered_name;
@@ -40,16 +42,23 @@ fn emit_on_delay(ops: &mut Ops, layout: &Layout<'_>, v: u32, limit: i16) -> Resu
     requires { Fits layout.now 0 }
     ensures { OnOk result (ops.new ≡ ops.old ++ timer_code layout.now TimerHow.Ton v limit) }
 {
-    let power = layout.power();
-    ops.push(IntOp::Ifs {
-        s: BitSource::B(power),
-    })?;
-    emit_is_below(ops, v, limit)?;
-    let b = BitDest::B(power);
-    emit_count(ops, v, IntOp::Clr { b })?;
-    ops.push(IntOp::Els)?;
-    ops.push(IntOp::Lit { v, n: 0 })?;
-    ops.push(IntOp::Fi)
+    let s = BitSource::B(layout.power());
+    let b = BitDest::B(layout.power());
+    let w = NumSource::V(v);
+    let u = NumSource::N(limit);
+    push_all(
+        ops,
+        [
+            IntOp::Ifs { s },
+            IntOp::Iflt { w, u },
+            IntOp::Inc { v },
+            IntOp::Clr { b },
+            IntOp::Fi,
+            IntOp::Els,
+            IntOp::Lit { v, n: 0 },
+            IntOp::Fi,
+        ],
+    )
 }
 
 /// TOF begins anew where there is power. Without it, it counts and switches the power on until it is at its limit.
@@ -57,16 +66,23 @@ fn emit_off_delay(ops: &mut Ops, layout: &Layout<'_>, v: u32, limit: i16) -> Res
     requires { Fits layout.now 0 }
     ensures { OnOk result (ops.new ≡ ops.old ++ timer_code layout.now TimerHow.Tof v limit) }
 {
-    let power = layout.power();
-    ops.push(IntOp::Ifs {
-        s: BitSource::B(power),
-    })?;
-    ops.push(IntOp::Lit { v, n: 0 })?;
-    ops.push(IntOp::Els)?;
-    emit_is_below(ops, v, limit)?;
-    let b = BitDest::B(power);
-    emit_count(ops, v, IntOp::Set { b })?;
-    ops.push(IntOp::Fi)
+    let s = BitSource::B(layout.power());
+    let b = BitDest::B(layout.power());
+    let w = NumSource::V(v);
+    let u = NumSource::N(limit);
+    push_all(
+        ops,
+        [
+            IntOp::Ifs { s },
+            IntOp::Lit { v, n: 0 },
+            IntOp::Els,
+            IntOp::Iflt { w, u },
+            IntOp::Inc { v },
+            IntOp::Set { b },
+            IntOp::Fi,
+            IntOp::Fi,
+        ],
+    )
 }
 
 /// RTO counts and switches the power off where it is not at its limit, and else switches it on. It never begins anew.
@@ -74,35 +90,23 @@ fn emit_kept_delay(ops: &mut Ops, layout: &Layout<'_>, v: u32, limit: i16) -> Re
     requires { Fits layout.now 0 }
     ensures { OnOk result (ops.new ≡ ops.old ++ timer_code layout.now TimerHow.Rto v limit) }
 {
-    let power = layout.power();
-    emit_is_below(ops, v, limit)?;
-    ops.push(IntOp::Ifs {
-        s: BitSource::B(power),
-    })?;
-    let b = BitDest::B(power);
-    emit_count(ops, v, IntOp::Clr { b })?;
-    ops.push(IntOp::Els)?;
-    ops.push(IntOp::Set { b })?;
-    ops.push(IntOp::Fi)
-}
-
-/// One more, and an operation. They end an if.
-fn emit_count(ops: &mut Ops, v: u32, op: IntOp) -> Result<(), AllocError>
-    ensures { OnOk result (ops.new ≡ ops.old ++ IntOp.Inc v ∷ op ∷ IntOp.Fi ∷ []) }
-{
-    ops.push(IntOp::Inc { v })?;
-    ops.push(op)?;
-    ops.push(IntOp::Fi)
-}
-
-/// What follows runs where the variable is below the limit.
-fn emit_is_below(ops: &mut Ops, v: u32, limit: i16) -> Result<(), AllocError>
-    ensures { OnOk result (ops.new ≡ ops.old ++ IntOp.Iflt (NumSource.V v) (NumSource.N limit) ∷ []) }
-{
-    ops.push(IntOp::Iflt {
-        w: NumSource::V(v),
-        u: NumSource::N(limit),
-    })
+    let s = BitSource::B(layout.power());
+    let b = BitDest::B(layout.power());
+    let w = NumSource::V(v);
+    let u = NumSource::N(limit);
+    push_all(
+        ops,
+        [
+            IntOp::Iflt { w, u },
+            IntOp::Ifs { s },
+            IntOp::Inc { v },
+            IntOp::Clr { b },
+            IntOp::Fi,
+            IntOp::Els,
+            IntOp::Set { b },
+            IntOp::Fi,
+        ],
+    )
 }
 
 /// A counter. It counts where the power becomes true.
@@ -120,43 +124,88 @@ pub fn emit_counter(
 {
     let v = layout.variable_of(name);
     match how {
-        CounterHow::Ctu => {
-            emit_on_rise(ops, layout, memory, IntOp::Inc { v })?;
-            emit_reached(ops, layout, v, max)
-        }
-        CounterHow::Ctd => {
-            emit_on_rise(ops, layout, memory, IntOp::Dec { v })?;
-            emit_reached(ops, layout, v, max)
-        }
-        CounterHow::Ctc => {
-            emit_rise_start(ops, layout, memory)?;
-            emit_round(ops, v, max)?;
-            emit_rise_end(ops, layout, memory)
-        }
+        CounterHow::Ctu => emit_to_limit(ops, layout, IntOp::Inc { v }, v, max, memory),
+        CounterHow::Ctd => emit_to_limit(ops, layout, IntOp::Dec { v }, v, max, memory),
+        CounterHow::Ctc => emit_round(ops, layout, v, max, memory),
     }
 }
 
-/// The power is whether the variable is at the limit or past it.
-fn emit_reached(ops: &mut Ops, layout: &Layout<'_>, v: u32, limit: i16) -> Result<(), AllocError>
-    requires { Fits layout.now 0 }
-    ensures { OnOk result (ops.new ≡ ops.old ++ reached layout.now v limit) }
+/// CTU and CTD count where the power becomes true. It is then whether the variable is at the limit or past it.
+fn emit_to_limit(
+    ops: &mut Ops,
+    layout: &Layout<'_>,
+    count: IntOp,
+    v: u32,
+    limit: i16,
+    memory: u32,
+) -> Result<(), AllocError>
+    requires fits { Fits layout.now 0 }
+    requires room { memory < layout.now.memories }
+    ensures { OnOk result (ops.new ≡ ops.old ++ (on_rise layout.now memory (count ∷ []) ++ reached layout.now v limit)) }
 {
+    let s = BitSource::B(layout.power());
     let b = BitDest::B(layout.power());
+    let kept = layout.memory_bit(memory);
     let w = NumSource::V(v);
     let u = NumSource::N(limit);
-    ops.push(IntOp::Set { b })?;
-    emit_cut_where(ops, layout, IntOp::Iflt { w, u })
+    push_all(
+        ops,
+        [
+            IntOp::Ifs { s },
+            IntOp::Ifc {
+                s: BitSource::B(kept),
+            },
+            count,
+            IntOp::Fi,
+            IntOp::Fi,
+            IntOp::Cpy {
+                b: BitDest::B(kept),
+                s,
+            },
+            IntOp::Set { b },
+            IntOp::Iflt { w, u },
+            IntOp::Clr { b },
+            IntOp::Fi,
+        ],
+    )
 }
 
-/// One more, and 0 behind `max`.
-fn emit_round(ops: &mut Ops, v: u32, max: i16) -> Result<(), AllocError>
-    ensures { OnOk result (ops.new ≡ ops.old ++ IntOp.Iflt (NumSource.V v) (NumSource.N max) ∷ IntOp.Inc v ∷ IntOp.Els ∷ IntOp.Lit v (pos 0) ∷ IntOp.Fi ∷ []) }
+/// CTC counts one more, and 0 behind `max`, where the power becomes true.
+fn emit_round(
+    ops: &mut Ops,
+    layout: &Layout<'_>,
+    v: u32,
+    max: i16,
+    memory: u32,
+) -> Result<(), AllocError>
+    requires fits { Fits layout.now 0 }
+    requires room { memory < layout.now.memories }
+    ensures { OnOk result (ops.new ≡ ops.old ++ counter_code layout.now CounterHow.Ctc v max memory) }
 {
-    emit_is_below(ops, v, max)?;
-    ops.push(IntOp::Inc { v })?;
-    ops.push(IntOp::Els)?;
-    ops.push(IntOp::Lit { v, n: 0 })?;
-    ops.push(IntOp::Fi)
+    let s = BitSource::B(layout.power());
+    let kept = layout.memory_bit(memory);
+    let w = NumSource::V(v);
+    let u = NumSource::N(max);
+    push_all(
+        ops,
+        [
+            IntOp::Ifs { s },
+            IntOp::Ifc {
+                s: BitSource::B(kept),
+            },
+            IntOp::Iflt { w, u },
+            IntOp::Inc { v },
+            IntOp::Els,
+            IntOp::Lit { v, n: 0 },
+            IntOp::Fi,
+            IntOp::Fi,
+            IntOp::Fi,
+            IntOp::Cpy {
+                b: BitDest::B(kept),
+                s,
+            },
+        ],
+    )
 }
 
 /// RES sets a variable to 0 where there is power.
@@ -261,14 +310,25 @@ fn emit_moves(
     ensures { OnOk result (ops.new ≡ ops.old ++ moves layout.now name.now places) }
 {
     for place in (1..places).rev() {
-        let to = numbered_name(alloc, name, place)?;
-        let from = numbered_name(alloc, name, place - 1)?;
-        ops.push(IntOp::Mov {
-            v: layout.variable_of(&to),
-            from: layout.variable_of(&from),
-        })?;
+        let v = numbered_variable(alloc, layout, name, place)?;
+        let from = numbered_variable(alloc, layout, name, place - 1)?;
+        ops.push(IntOp::Mov { v, from })?;
     }
     Ok(())
+}
+
+/// The number of a shift register's variable at a place.
+fn numbered_variable(
+    alloc: Global,
+    layout: &Layout<'_>,
+    name: &Name,
+    place: u16,
+) -> Result<u32, AllocError>
+    requires { Fits layout.now 0 }
+    ensures { IfOk result (λ v. v ≡ variable_of layout.now (name.now ++ decimal place)) }
+{
+    let numbered = numbered_name(alloc, name, place)?;
+    Ok(layout.variable_of(&numbered))
 }
 
 /// A variable gets the value at an index where there is power and a value.

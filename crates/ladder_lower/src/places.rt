@@ -1,6 +1,6 @@
 //! The places of names in a list.
 
-ghost use Rattle.std.specs.Prelude.{◌≡◌, ◌^◌, ◌<◌, ◌≤◌, length, IfOk};
+ghost use Rattle.std.specs.Prelude.{◌≡◌, ◌^◌, ◌<◌, ◌≤◌, [], length, map, OnOk};
 ghost use Rattle.ladder_meaning.specs.State.{place_of};
 ghost use Rattle.ladder_lower.specs.Apart.{Apart};
 
@@ -24,16 +24,21 @@ impl<'n> Model for Places<'n> {
 }
 
 impl<'n> Places<'n> {
-    /// The places in a list.
-    pub fn new(alloc: Global, names: &'n [Name]) -> Result<Places<'n>, AllocError>
-        requires { Apart names.now }
-        ensures { IfOk result (λ p. p ≡ names.now) }
+    /// No places.
+    pub fn new(alloc: Global) -> Places<'n>
+        ensures { result ≡ [] }
     {
-        let mut places = IndexSet::new(alloc);
-        for name in names {
-            places.insert(name.as_slice())?;
+        Places {
+            names: IndexSet::new(alloc),
         }
-        Ok(Places { names: places })
+    }
+
+    /// Has these names, and no others.
+    pub fn hold(&mut self, names: &'n [Name]) -> Result<(), AllocError>
+        requires { Apart names.now }
+        ensures { OnOk result (self.new ≡ names.now) }
+    {
+        hold_all(&mut self.names, names)
     }
 
     /// How many names there are.
@@ -52,4 +57,16 @@ impl<'n> Places<'n> {
         let place = self.names.get_index_of(name.as_slice());
         place.unwrap_or(self.names.len()) as u32
     }
+}
+
+/// The set has these names, and no others.
+fn hold_all<'n>(set: &mut IndexSet<&'n [u8]>, names: &'n [Name]) -> Result<(), AllocError>
+    requires { Apart names.now }
+    ensures { OnOk result (map (λ k. k.now) set.new.keys ≡ names.now) }
+{
+    set.clear();
+    for name in names {
+        set.insert(name.as_slice())?;
+    }
+    Ok(())
 }

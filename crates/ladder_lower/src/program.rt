@@ -5,6 +5,7 @@ ghost use Rattle.ladder_tree.specs.Leaves.{all_leaves};
 ghost use Rattle.ladder_tree.specs.declared.project.Project.{Project};
 ghost use Rattle.ladder_meaning.specs.Cycle.{start_number};
 ghost use Rattle.ladder_lower.specs.Fit.{all_fit};
+ghost use Rattle.ladder_lower.specs.Masters.{any_master};
 ghost use Rattle.ladder_lower.specs.Nesting.{nesting_of_all};
 ghost use Rattle.ladder_lower.specs.NodeCode.{rung_start, rungs_code, program_code, memories_of};
 ghost use Rattle.ladder_lower.specs.Outcome.{CanLower, IsLowered, HasSizes, IsSmall};
@@ -25,11 +26,28 @@ pub fn lower(alloc: Global, project: &Project, names: &Names) -> Result<IntProgr
     requires { CanLower names.now project.now }
     ensures { IfOk result (IsLowered names.now project.now) }
 {
+    let has_master = has_master(project.rungs.as_slice());
+    let mut layout = Layout::empty(alloc, project.cycle, has_master);
+    lower_by(alloc, project, names, &mut layout)
+}
+
+/// The program of a project by a layout, which gets its names.
+fn lower_by<'n>(
+    alloc: Global,
+    project: &Project,
+    names: &'n Names,
+    layout: &mut Layout<'n>,
+) -> Result<IntProgram, AllocError>
+    requires project { CanLower names.now project.now }
+    requires cycle { layout.old.cycle ≡ project.now.cycle }
+    requires master { layout.old.has_master ≡ any_master (all_leaves project.now.rungs) }
+    ensures { IfOk result (IsLowered names.now project.now) }
+{
+    layout.hold(names)?;
     let rungs = project.rungs.as_slice();
-    let layout = Layout::new(alloc, names, project.cycle, has_master(rungs))?;
     let mut ops = Ops::new(alloc);
-    emit_program(alloc, &mut ops, &layout, rungs)?;
-    let starts = start_values(alloc, project, &layout)?;
+    emit_program(alloc, &mut ops, layout, rungs)?;
+    let starts = start_values(alloc, project, layout)?;
     let wires = layout.wires(nesting(rungs));
     Ok(assemble(names, ops, wires, starts))
 }

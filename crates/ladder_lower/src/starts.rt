@@ -50,10 +50,40 @@ fn off_delay(kind: &LeafKind) -> Option<OffDelay<'_>>
     ensures none { IfNone result ((cycle : ℕ) (name : List ℕ) (other : ℤ) → start_by cycle kind.now name other ≡ other) }
 {
     match kind {
-        LeafKind::Timer { how, name, delay } if *how == TimerHow::Tof => Some(OffDelay {
+        LeafKind::Timer {
+            how: TimerHow::Tof,
+            name,
+            delay,
+        } => Some(OffDelay {
             name,
             delay: *delay,
         }),
-        _ => None,
+        LeafKind::Timer {
+            how: TimerHow::Ton | TimerHow::Rto,
+            ..
+        }
+        | LeafKind::Contacts { .. }
+        | LeafKind::Coil { .. }
+        | LeafKind::Osr
+        | LeafKind::Osf
+        | LeafKind::Short
+        | LeafKind::Open
+        | LeafKind::MasterRelay
+        | LeafKind::Placeholder
+        | LeafKind::Comment { .. }
+        | LeafKind::Counter { .. }
+        | LeafKind::Reset { .. }
+        | LeafKind::Move { .. }
+        | LeafKind::Math { .. }
+        | LeafKind::Compare { .. }
+        | LeafKind::Shift { .. }
+        | LeafKind::Table { .. }
+        | LeafKind::ReadAdc { .. }
+        | LeafKind::SetPwm { .. }
+        | LeafKind::Recv { .. }
+        | LeafKind::Send { .. }
+        | LeafKind::Persist { .. }
+        | LeafKind::Linear { .. }
+        | LeafKind::Formatted { .. } => None,
     }
 }

@@ -1,44 +1,65 @@
 //! Which wires the rungs want.
 
 ghost use Rattle.std.specs.Prelude.{◌≡◌, ◌^◌, ◌<◌};
-ghost use Rattle.ladder_tree.specs.Leaves.{leaves, leaves_in, all_leaves};
+ghost use Rattle.ladder_tree.specs.Leaves.{all_leaves};
 ghost use Rattle.ladder_lower.specs.Masters.{is_master, any_master};
-ghost use Rattle.ladder_lower.specs.Nesting.{nesting, nesting_in, nesting_of_parallel, nesting_of_all};
+ghost use Rattle.ladder_lower.specs.Nesting.{nesting, nesting_in, nesting_of_all};
 
-use ladder_tree::element::LeafKind;
+use ladder_tree::element::{Leaf, LeafKind};
 use ladder_tree::project::{Node, Rung};
+use ladder_tree::visit::{Visitor, visit_all};
+
+/// Stops at the first MASTER_RELAY.
+#[derive(Drop)]
+struct MasterSought;
+
+impl Visitor for MasterSought {
+    ghost use Rattle.ladder_lower.specs.Masters.{at_master};
+
+    type Stop = ();
+
+    ghost at = { at_master };
+
+    fn visit(&mut self, leaf: &Leaf) -> Option<()> {
+        is_master(&leaf.kind).then_some(())
+    }
+}
 
 /// Whether there is a MASTER_RELAY.
 pub fn has_master(rungs: &[Rung]) -> bool
     ensures { result ≡ any_master (all_leaves rungs.now) }
 {
-    for rung in rungs {
-        if has_master_in(rung.nodes.as_slice()) {
-            return true;
-        }
-    }
-    false
+    visit_all(&mut MasterSought, rungs).is_some()
 }
 
-#[cycle(master)]
-fn has_master_in(nodes: &[Node]) -> bool
-    ensures { result ≡ any_master (leaves_in nodes.now) }
+fn is_master(kind: &LeafKind) -> bool
+    ensures { result ≡ is_master kind.now }
 {
-    for node in nodes {
-        if has_master_at(node) {
-            return true;
-        }
-    }
-    false
-}
-
-#[cycle(master)]
-fn has_master_at(node: &Node) -> bool
-    ensures { result ≡ any_master (leaves node.now) }
-{
-    match node {
-        Node::Leaf(leaf) => matches!(&leaf.kind, LeafKind::MasterRelay),
-        Node::Series(nodes) | Node::Parallel(nodes) => has_master_in(nodes.as_slice()),
+    match kind {
+        LeafKind::MasterRelay => true,
+        LeafKind::Contacts { .. }
+        | LeafKind::Coil { .. }
+        | LeafKind::Osr
+        | LeafKind::Osf
+        | LeafKind::Short
+        | LeafKind::Open
+        | LeafKind::Placeholder
+        | LeafKind::Comment { .. }
+        | LeafKind::Timer { .. }
+        | LeafKind::Counter { .. }
+        | LeafKind::Reset { .. }
+        | LeafKind::Move { .. }
+        | LeafKind::Math { .. }
+        | LeafKind::Compare { .. }
+        | LeafKind::Shift { .. }
+        | LeafKind::Table { .. }
+        | LeafKind::ReadAdc { .. }
+        | LeafKind::SetPwm { .. }
+        | LeafKind::Recv { .. }
+        | LeafKind::Send { .. }
+        | LeafKind::Persist { .. }
+        | LeafKind::Linear { .. }
+        | LeafKind::Formatted { .. } => false,
     }
 }
 

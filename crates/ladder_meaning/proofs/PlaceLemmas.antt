@@ -45,7 +45,8 @@ other_true false b h f = h
 placed_seen : (xs : List (List ℕ)) (name : List ℕ) → list_any (bytes_eq name) xs ≡ true → IsPlaced xs name
 placed_seen [] name h = absurd (cc)
 placed_seen (x ∷ xs) name h =
-    let differs : bytes_eq x name ≡ false → bytes_eq name x ≡ true → ⊥ = λ e f. not_from_Decides (bytes_eq x name) (bytes_eq-Decides x name) e (sym ((bytes_eq-Decides name x).0 f)) in
+    let differs : bytes_eq x name ≡ false → bytes_eq name x ≡ true → ⊥ =
+    λ e f. not_from_Decides (bytes_eq x name) (bytes_eq-Decides x name) e (sym ((bytes_eq-Decides name x).0 f)) in
     placed_by (bytes_eq x name) (place_of xs name) (length xs) (λ e. placed_seen xs name (other_true (bytes_eq name x) (list_any (bytes_eq name) xs) h (differs e)))
 
 kept_by : (xs ns : List (List ℕ)) (n name : List ℕ) (b : Bool) → ((xs : List (List ℕ)) → IsPlaced xs name → IsPlaced (firsts_from xs ns) name)

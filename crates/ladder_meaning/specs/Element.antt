@@ -72,7 +72,8 @@ element p r (Move dest src) k s power = record { now = set_where power s dest (o
 element p r (Math how dest a b) k s power = record { now = set_where power s dest (computed how (operand s a) (operand s b)); output = power }
 element p r (Compare how a b) k s power = record { now = s; output = power && compares how (operand s a) (operand s b) }
 element p r (Shift name places) k s power = record { now = with_memory (if rises s k power then shifted name places s else s) k power; output = power }
-element p r (Table dest index as_text values) k s power = record { now = if power then looked_up dest s (value_at values (operand s index)) else s; output = power }
+element p r (Table dest index as_text values) k s power =
+    record { now = if power then looked_up dest s (value_at values (operand s index)) else s; output = power }
 element p r (ReadAdc name) k s power = record { now = set_where power s name (r.analog name); output = power }
 element p r (SetPwm name hz) k s power = record { now = if power then with_duty s (s.kept.number name) else s; output = power }
 element p r (Recv name) k s power = if power then receive name s s.received else record { now = s; output = false }

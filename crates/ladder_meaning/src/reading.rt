@@ -7,7 +7,7 @@ use ld_base::list::List;
 pub type Bits = List<bool>;
 
 /// What a cycle is given, by the order of the project's names. It is held still within the cycle.
-#[derive(Debug, Drop)]
+#[derive(Drop)]
 pub struct Reading {
     /// A level for each input.
     pub inputs: Bits,
@@ -22,7 +22,7 @@ pub struct Reading {
 }
 
 /// What a cycle shows at its end, by the order of the project's names.
-#[derive(Debug, Drop)]
+#[derive(Drop)]
 pub struct View {
     /// A level for each output.
     pub outputs: Bits,

@@ -19,13 +19,17 @@ last_by (n ∷ ns) (suc i) lt = same_test (suc i) (length ns) ∙ last_by ns i (
 last_at : (ns : List Node) (i : ℕ) → i < length ns → nat_eq (i + 1) (length ns) ≡ is_last (map placed (drop (i + 1) ns))
 last_at ns i lt = rw add-one (last_by ns i lt)
 
-pub series_front : (ns : List Node) (i : ℕ) (n : Node) (end : Bool) → i < length ns → n ≡ get_or ns i n → placed_series (drop i ns) end ≡ placed n (end && nat_eq (i + 1) (length ns)) ++ placed_series (drop (i + 1) ns) end
-series_front ns i n end lt is = ap (λ xs. placed_series xs end) (at_front ns i n lt is) ∙ ap (λ b. placed n (end && b) ++ placed_series (drop (i + 1) ns) end) (sym (last_at ns i lt))
+pub series_front : (ns : List Node) (i : ℕ) (n : Node) (end : Bool) → i < length ns → n ≡ get_or ns i n →
+    placed_series (drop i ns) end ≡ placed n (end && nat_eq (i + 1) (length ns)) ++ placed_series (drop (i + 1) ns) end
+series_front ns i n end lt is =
+    ap (λ xs. placed_series xs end) (at_front ns i n lt is) ∙ ap (λ b. placed n (end && b) ++ placed_series (drop (i + 1) ns) end) (sym (last_at ns i lt))
 
-pub parallel_front : (ns : List Node) (i : ℕ) (n : Node) (end : Bool) → i < length ns → n ≡ get_or ns i n → placed_parallel (drop i ns) end ≡ placed n end ++ placed_parallel (drop (i + 1) ns) end
+pub parallel_front : (ns : List Node) (i : ℕ) (n : Node) (end : Bool) → i < length ns → n ≡ get_or ns i n →
+    placed_parallel (drop i ns) end ≡ placed n end ++ placed_parallel (drop (i + 1) ns) end
 parallel_front ns i n end lt is = ap (λ xs. placed_parallel xs end) (at_front ns i n lt is)
 
-pub placed_front : (gs : List Rung) (i : ℕ) (g : Rung) → i < length gs → g ≡ get_or gs i g → all_placed (drop i gs) ≡ placed_series g.nodes true ++ all_placed (drop (i + 1) gs)
+pub placed_front : (gs : List Rung) (i : ℕ) (g : Rung) → i < length gs → g ≡ get_or gs i g →
+    all_placed (drop i gs) ≡ placed_series g.nodes true ++ all_placed (drop (i + 1) gs)
 placed_front gs i g lt is = ap all_placed (at_front gs i g lt is)
 
 pub and_so : (a b w : Bool) → a ≡ true → w ≡ b → w ≡ (a && b)

@@ -29,7 +29,8 @@ bit_kind (Contacts name neg) e = e
 bit_kind (Coil name mode) e = e
 bit_kind _ e = refl
 
-kinds_by : (p : Project) (pre : List element.Leaf) (xs : List Placed) → first_fault (fault_of WrongKind p) (spots_behind pre xs) ≡ None → list_all (λ l. has_kind l.kind) (elements xs) ≡ true
+kinds_by : (p : Project) (pre : List element.Leaf) (xs : List Placed) → first_fault (fault_of WrongKind p) (spots_behind pre xs) ≡ None →
+    list_all (λ l. has_kind l.kind) (elements xs) ≡ true
 kinds_by p pre [] e = refl
 kinds_by p pre (x ∷ xs) e =
     let both = neither (fault_of WrongKind p (record { leaf = x.leaf; before = pre; at_right_end = x.at_right_end })) _ e in

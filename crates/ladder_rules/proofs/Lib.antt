@@ -1,8 +1,10 @@
+pub mod AssignedLemmas
 pub mod FrontLemmas
 pub mod KindLemmas
 pub mod NeedLemmas
 pub mod OwnerLemmas
 pub mod RuleLemmas
-pub mod SearchLemmas
+pub mod SoughtLemmas
 pub mod TimerLemmas
+pub mod TwiceLemmas
 pub mod WalkLemmas

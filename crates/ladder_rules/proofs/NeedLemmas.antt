@@ -19,7 +19,7 @@ use Rattle.ladder_tree.specs.declared.element.LeafKind.TheVariants.{Shift}
 use Rattle.ladder_tree.specs.declared.project.Node.{Node}
 use Rattle.ladder_tree.specs.declared.project.Rung.{Rung}
 use Rattle.ladder_tree.specs.Forms.{forms_of, forms_in, forms_step, forms_of_all}
-use Rattle.ladder_rules.specs.Limits.{IsShort, IsWithinLimits, extent}
+use Rattle.ladder_rules.specs.Limits.{IsShort, IsWithinLimits, extent, most_extent}
 use Rattle.ladder_rules.specs.Needs.{row_of_element, steps, fixed, growing, element_cost, cost_step, node_cost, nodes_cost, rungs_cost, total, uses, feature, feature_words}
 use Rattle.ladder_rules.specs.declared.cost.Column.{Column}
 use Rattle.ladder_rules.specs.declared.cost.Column.TheVariants.{Words, Cycles, Ops}
@@ -88,10 +88,10 @@ fewer : (k : LeafKind) → steps k ≤ extent k
 fewer (Shift name places) = omega arith
 fewer _ = omega arith
 
-growing_low : (c : Column) (t : Target) (k : LeafKind) → extent k ≤ 60 → growing c t k ≤ 1440
-growing_low Words t k h = let f = fewer k in times_low _ (steps k) 24 60 (cost_low t (row_of_element k)).words_each (omega arith)
-growing_low Cycles t k h = let f = fewer k in times_low _ (steps k) 24 60 (cost_low t (row_of_element k)).cycles_each (omega arith)
-growing_low Ops t k h = times_low _ (extent k) 24 60 (cost_low t (row_of_element k)).ops_each h
+growing_low : (c : Column) (t : Target) (k : LeafKind) → extent k ≤ most_extent → growing c t k ≤ 1440
+growing_low Words t k h = let f = fewer k in times_low _ (steps k) 24 most_extent (cost_low t (row_of_element k)).words_each (omega arith)
+growing_low Cycles t k h = let f = fewer k in times_low _ (steps k) 24 most_extent (cost_low t (row_of_element k)).cycles_each (omega arith)
+growing_low Ops t k h = times_low _ (extent k) 24 most_extent (cost_low t (row_of_element k)).ops_each h
 
 all_front : (a b : List element.Leaf) → All IsShort (a ++ b) → All IsShort a
 all_front [] b h = All-nil IsShort
@@ -105,7 +105,8 @@ module _ (c : Column) (t : Target) where
   abbrev IsCheap : Node → Type 0
   IsCheap n = All IsShort (leaves n) → node_cost c t n + 5000 ≤ 20000 * (length (leaves n) + forms_of n)
 
-  list_cheap : (ns : List Node) → Each IsCheap ns → All IsShort (leaves_in ns) → nodes_cost c t ns + 5000 * length ns ≤ 20000 * (length (leaves_in ns) + forms_in ns)
+  list_cheap : (ns : List Node) → Each IsCheap ns → All IsShort (leaves_in ns) →
+      nodes_cost c t ns + 5000 * length ns ≤ 20000 * (length (leaves_in ns) + forms_in ns)
   list_cheap [] h short = omega arith
   list_cheap (n ∷ ns) h short =
       let f = h.0 (all_front (leaves n) (leaves_in ns) short) in

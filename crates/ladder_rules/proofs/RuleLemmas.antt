@@ -39,7 +39,9 @@ pub record Kept (p : Project) : Type 0 where
   pub short : offence p TimerShort ≡ None
   pub long : offence p TimerLong ≡ None
   pub rates : offence p PwmTwoRates ≡ None
+  pub assigned : offence p (OnChip PinUnassigned) ≡ None
   pub pins : pin_twice p ≡ None
+  pub served : offence p (OnChip NoSuchPin) ≡ None
   pub cycle : cycle_range p ≡ None
   pub baud : offence p (OnChip BaudRange) ≡ None
   pub pwm : offence p (OnChip PwmRange) ≡ None
@@ -61,7 +63,7 @@ kept p e =
     let n = neither (cycle_range p) _ m.1 in
     let o = neither (offence p (OnChip BaudRange)) _ n.1 in
     let q = neither (offence p (OnChip PwmRange)) (first_of []) o.1 in
-    record { right_ends = a.0; kinds = b.0; timers = c.0; short = d.0; long = f.0; rates = i.0; pins = k.0; cycle = n.0; baud = o.0; pwm = q.0 }
+    record { right_ends = a.0; kinds = b.0; timers = c.0; short = d.0; long = f.0; rates = i.0; assigned = j.0; pins = k.0; served = l.0; cycle = n.0; baud = o.0; pwm = q.0 }
 
 or_false : (a b : Bool) → a ≡ false → b ≡ false → (a || b) ≡ false
 or_false a b d e = rw (d, e) refl
@@ -75,7 +77,7 @@ module _ (broken : Spot → Option ProjectFault) (test : LeafKind → Bool) (tel
       or_false _ _ (tells s both.0) (none_by (pre ++ x.leaf ∷ []) xs both.1)
 
   -- where no element breaks a rule, none is as it tells
-  none_tells : (p : Project) → first_fault broken (spots p.rungs) ≡ None → list_any (λ l. test l.kind) (all_leaves p.rungs) ≡ false
+  pub none_tells : (p : Project) → first_fault broken (spots p.rungs) ≡ None → list_any (λ l. test l.kind) (all_leaves p.rungs) ≡ false
   none_tells p e = ap (λ ls. list_any (λ l. test l.kind) ls) (sym (all_kept p.rungs)) ∙ none_by [] (all_placed p.rungs) e
 
 not_so : (b : Bool) (f : ProjectFault) → then_some b f ≡ None → b ≡ false
@@ -115,11 +117,12 @@ and_true f (l ∷ ls) = rw (and_true f ls) (by_test (f l) (list_any f ls))
     by_test true b = refl
     by_test false b = refl
 
-on_chip : (chip b : Bool) (f : ProjectFault) → chip ≡ true → cond chip (then_some b f) None ≡ None → b ≡ false
+pub on_chip : (chip b : Bool) (f : ProjectFault) → chip ≡ true → cond chip (then_some b f) None ≡ None → b ≡ false
 on_chip true b f t e = not_so b f e
 on_chip false b f t e = let clash : ⊥ = cc in absurd clash
 
-baud_by : (o : Option BaudSetting) (ls : List element.Leaf) → list_any (λ l. is_uart l.kind && is_none o) ls ≡ false → is_some (cond (any_uart ls) o None) ≡ any_uart ls
+baud_by : (o : Option BaudSetting) (ls : List element.Leaf) → list_any (λ l. is_uart l.kind && is_none o) ls ≡ false →
+    is_some (cond (any_uart ls) o None) ≡ any_uart ls
 baud_by None ls e = let none : any_uart ls ≡ false = sym (and_true (λ l. is_uart l.kind) ls) ∙ e in rw none refl
 baud_by (Some s) ls e = both (any_uart ls)
   where
@@ -136,15 +139,18 @@ some_false : {A : Type 0} (o : Option A) → is_none o ≡ false → is_some o �
 some_false None e = let clash : ⊥ = cc in absurd clash
 some_false (Some x) e = refl
 
-or_parts : (a b : Bool) → (a || b) ≡ false → (a ≡ false) × (b ≡ false)
+pub or_parts : (a b : Bool) → (a || b) ≡ false → (a ≡ false) × (b ≡ false)
 or_parts false b e = (refl, e)
 or_parts true b e = let clash : ⊥ = cc in absurd clash
 
-pwm_kind : (p : Project) (k : LeafKind) (rest : Option ℕ) (more : Bool) → lacks_rate p k ≡ false → is_some (option_and_then (pwm_of p.target p.crystal) rest) ≡ more → is_some (option_and_then (pwm_of p.target p.crystal) (option_or (rate_of k) rest)) ≡ (is_pwm k || more)
+pwm_kind : (p : Project) (k : LeafKind) (rest : Option ℕ) (more : Bool) → lacks_rate p k ≡ false →
+    is_some (option_and_then (pwm_of p.target p.crystal) rest) ≡ more →
+    is_some (option_and_then (pwm_of p.target p.crystal) (option_or (rate_of k) rest)) ≡ (is_pwm k || more)
 pwm_kind p (SetPwm name hz) rest more e f = some_false (pwm_of p.target p.crystal hz) e
 pwm_kind p _ rest more e f = f
 
-pwm_by : (p : Project) (ls : List element.Leaf) → list_any (λ l. lacks_rate p l.kind) ls ≡ false → is_some (option_and_then (pwm_of p.target p.crystal) (first_rate ls)) ≡ any_pwm ls
+pwm_by : (p : Project) (ls : List element.Leaf) → list_any (λ l. lacks_rate p l.kind) ls ≡ false →
+    is_some (option_and_then (pwm_of p.target p.crystal) (first_rate ls)) ≡ any_pwm ls
 pwm_by p [] e = refl
 pwm_by p (l ∷ ls) e =
     let h = or_parts (lacks_rate p l.kind) _ e in
@@ -160,7 +166,8 @@ devices_by p None f = tt
 devices_by p (Some t) f = f refl
 
 -- the devices that have settings are those that the project uses
-pub devices_there : (p : Project) → rule p ≡ None → IfSome (settings_of p) (λ s. (is_some s.baud ≡ any_uart (all_leaves p.rungs)) × (is_some s.pwm ≡ any_pwm (all_leaves p.rungs)))
+pub devices_there : (p : Project) → rule p ≡ None →
+    IfSome (settings_of p) (λ s. (is_some s.baud ≡ any_uart (all_leaves p.rungs)) × (is_some s.pwm ≡ any_pwm (all_leaves p.rungs)))
 devices_there p e =
     devices_by p (timer_of p.target p.cycle p.crystal)
     (λ t. let chip : is_chip p.target ≡ true = sym (timer_there p e) ∙ t in (baud_there p e chip, pwm_there p e chip))

@@ -24,7 +24,8 @@ fault_in (Ok n) = None
 fault_in (Err f) = Some f
 
 module _ (broken : Spot → Option ProjectFault) (all : List element.Leaf) where
-  by_fault : (o : Option ProjectFault) (x y : Result ℕ ProjectFault) (next : ℕ → Result ℕ ProjectFault) → x ≡ goes_on y next → or_on o x ≡ goes_on (or_on o y) next
+  by_fault : (o : Option ProjectFault) (x y : Result ℕ ProjectFault) (next : ℕ → Result ℕ ProjectFault) → x ≡ goes_on y next →
+      or_on o x ≡ goes_on (or_on o y) next
   by_fault None x y next e = e
   by_fault (Some f) x y next e = refl
 
@@ -32,10 +33,12 @@ module _ (broken : Spot → Option ProjectFault) (all : List element.Leaf) where
   walk-append k [] b = refl
   walk-append k (x ∷ a) b = by_fault (broken (spot_at all k x.leaf x.at_right_end)) _ _ _ (walk-append (k + 1) a b)
 
-  pub walk_step : (k : ℕ) (a b rest : List Placed) (o whole : Result ℕ ProjectFault) → rest ≡ a ++ b → o ≡ walk broken all k a → walk broken all k rest ≡ whole → goes_on o (λ n. walk broken all n b) ≡ whole
+  pub walk_step : (k : ℕ) (a b rest : List Placed) (o whole : Result ℕ ProjectFault) → rest ≡ a ++ b → o ≡ walk broken all k a →
+      walk broken all k rest ≡ whole → goes_on o (λ n. walk broken all n b) ≡ whole
   walk_step k a b rest o whole front e h = ap (λ x. goes_on x (λ n. walk broken all n b)) e ∙ sym (walk-append k a b) ∙ sym (ap (walk broken all k) front) ∙ h
 
-  count_by_fault : (o : Option ProjectFault) (k n : ℕ) (a : List Placed) → (Ok n ≡ walk broken all (k + 1) a → n ≡ k + 1 + length a) → Ok n ≡ or_on o (walk broken all (k + 1) a) → n ≡ k + (length a + 1)
+  count_by_fault : (o : Option ProjectFault) (k n : ℕ) (a : List Placed) → (Ok n ≡ walk broken all (k + 1) a → n ≡ k + 1 + length a) →
+      Ok n ≡ or_on o (walk broken all (k + 1) a) → n ≡ k + (length a + 1)
   count_by_fault None k n a f e = let h = f e in omega (arith, h)
   count_by_fault (Some x) k n a f e = let clash : ⊥ = cc in absurd clash
 
@@ -58,7 +61,8 @@ module _ (broken : Spot → Option ProjectFault) (all : List element.Leaf) where
   first_by None w rest e = e
   first_by (Some f) w rest e = refl
 
-  walk_first : (pre : List element.Leaf) (k : ℕ) (xs : List Placed) → k ≡ length pre → all ≡ pre ++ map (λ x. x.leaf) xs → fault_in (walk broken all k xs) ≡ first_fault broken (spots_behind pre xs)
+  walk_first : (pre : List element.Leaf) (k : ℕ) (xs : List Placed) → k ≡ length pre → all ≡ pre ++ map (λ x. x.leaf) xs →
+      fault_in (walk broken all k xs) ≡ first_fault broken (spots_behind pre xs)
   walk_first pre k [] e h = refl
   walk_first pre k (x ∷ xs) e h =
       let before : take k all ≡ pre = rw (e, h) (take-append_seam pre (x.leaf ∷ map (λ y. y.leaf) xs)) in
@@ -106,7 +110,8 @@ room gs lt =
     let same : length (elements (all_placed gs)) ≡ length (all_leaves gs) = ap length (all_kept gs) in
     omega (arith, same, lt, length-map (all_placed gs) (λ x. x.leaf))
 
-pub whole_walk : (broken : Spot → Option ProjectFault) (gs : List Rung) (o : Result ℕ ProjectFault) → o ≡ walk broken (all_leaves gs) 0 (all_placed gs) → fault_in o ≡ first_fault broken (spots gs)
+pub whole_walk : (broken : Spot → Option ProjectFault) (gs : List Rung) (o : Result ℕ ProjectFault) → o ≡ walk broken (all_leaves gs) 0 (all_placed gs) →
+    fault_in o ≡ first_fault broken (spots gs)
 whole_walk broken gs o e = ap fault_in e ∙ walk_first broken (all_leaves gs) [] 0 (all_placed gs) refl (sym (all_kept gs))
 
 pub refused : (f : ProjectFault) (o : Option ProjectFault) → Some f ≡ o → Err f ≡ verdict o

@@ -21,6 +21,7 @@ use Rattle.ladder_tree.specs.declared.project.Project.{Project}
 use Rattle.ladder_tree.specs.declared.project.Rung.{Rung}
 use Rattle.ladder_rules.specs.Kinds.{is_pwm, is_persist, is_uart, is_adc}
 use Rattle.ladder_rules.specs.Limits.{extent}
+use Rattle.ladder_rules.specs.declared.limits.TheConstants.{F628_BOOT, F877_BOOT, MEGA16_BOOT, TOF_BOOT}
 use Rattle.ladder_rules.specs.declared.cost.Column.{Column}
 use Rattle.ladder_rules.specs.declared.cost.Column.TheVariants.{Words, Cycles, Ops}
 
@@ -155,9 +156,9 @@ tofs_in ls = count_by (λ l. is_tof l.kind) ls
 
 -- the variable of a TOF does not begin at 0
 abbrev pub boot_cap_on : Target → ℕ → ℕ
-boot_cap_on F628 n = 4000 + 20 * n
-boot_cap_on F877 n = 6000 + 20 * n
-boot_cap_on Mega16 n = 14000 + 20 * n
+boot_cap_on F628 n = F628_BOOT + TOF_BOOT * n
+boot_cap_on F877 n = F877_BOOT + TOF_BOOT * n
+boot_cap_on Mega16 n = MEGA16_BOOT + TOF_BOOT * n
 boot_cap_on Interp n = 0
 boot_cap_on AnsiC n = 0
 

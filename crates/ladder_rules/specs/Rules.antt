@@ -16,6 +16,7 @@ use Rattle.ladder_tree.specs.declared.project.Project.{Project}
 use Rattle.ladder_rules.specs.ChipRules.{chip_fault}
 use Rattle.ladder_rules.specs.Pins.{is_chip}
 use Rattle.ladder_rules.specs.Places.{Spot}
+use Rattle.ladder_rules.specs.declared.limits.TheConstants.{LONGEST_PERIOD}
 use Rattle.ladder_rules.specs.declared.rule.ElementRule.{ElementRule}
 use Rattle.ladder_rules.specs.declared.rule.ElementRule.TheVariants.{NotRightmost, WrongKind, TimerTwice, TimerShort, TimerLong, PwmTwoRates, OnChip}
 
@@ -77,7 +78,7 @@ is_short cycle (Timer how name delay) = not (nat_eq cycle 0) && nat_eq (period c
 is_short cycle _ = false
 
 abbrev pub is_long : ℕ → LeafKind → Bool
-is_long cycle (Timer how name delay) = not (nat_eq cycle 0) && nat_lt 32767 (period cycle delay)
+is_long cycle (Timer how name delay) = not (nat_eq cycle 0) && nat_lt LONGEST_PERIOD (period cycle delay)
 is_long cycle _ = false
 
 -- the hertz of a SET_PWM

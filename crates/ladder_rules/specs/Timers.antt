@@ -1,13 +1,17 @@
 -- The quick look at the names of timers. It is no part of the rules: where it finds no name twice, there is none.
-use Rattle.std.specs.Prelude.{ℕ, ◌+◌, ◌*◌, ◌%◌, Bool, true, false, ◌&&◌, cond, List, [], ◌∷◌, take, set, slice_index_or, Option, Some, None, is_some}
+use Rattle.std.specs.Prelude.{ℕ, ◌+◌, ◌-◌, ◌*◌, ◌%◌, ◌^◌, min, Bool, true, false, not, ◌&&◌, cond, List, [], ◌∷◌, take, set, slice_index_or, Option, is_some}
+use Rattle.std.specs.Bool.{then_some}
+use Rattle.ladder_tree.specs.Leaves.{all_leaves}
 use Rattle.ladder_tree.specs.declared.element.Leaf as element
 use Rattle.ladder_tree.specs.declared.element.LeafKind.{LeafKind}
 use Rattle.ladder_tree.specs.declared.element.LeafKind.TheVariants.{Timer}
 use Rattle.ladder_rules.specs.Rules.{first_timer}
+use Rattle.ladder_rules.specs.declared.limits.TheConstants.{MARKS, MARK_FACTOR}
+use Rattle.ladder_rules.specs.declared.timers.TimersMet.{TimersMet}
 
 abbrev pub mark_from : ℕ → List ℕ → ℕ
 mark_from mark [] = mark
-mark_from mark (b ∷ bs) = mark_from ((mark * 31 + b) % 65536) bs
+mark_from mark (b ∷ bs) = mark_from ((mark * MARK_FACTOR + b) % MARKS) bs
 
 -- a name's mark
 abbrev pub mark_of : List ℕ → ℕ
@@ -19,11 +23,9 @@ admitted all k marks (Timer how name delay) =
     cond (slice_index_or marks (mark_of name) false && is_some (first_timer name (take k all))) (false, marks) (true, set marks (mark_of name) true)
 admitted all k marks _ = (true, marks)
 
-abbrev pub goes_on : Bool × List Bool → (List Bool → Option ℕ × List Bool) → Option ℕ × List Bool
-goes_on (true, marks) next = next marks
-goes_on (false, marks) next = (None, marks)
+abbrev pub admission : TimersMet → element.Leaf → Bool × List Bool
+admission v l = admitted (all_leaves v.rungs.now) v.passed v.marks l.kind
 
--- how many elements there are with those behind k others, where all are admitted
-abbrev pub look : List element.Leaf → ℕ → List Bool → List element.Leaf → Option ℕ × List Bool
-look all k marks [] = (Some k, marks)
-look all k marks (l ∷ ls) = goes_on (admitted all k marks l.kind) (λ m. look all (k + 1) m ls)
+-- it stops at an element that is not admitted
+abbrev pub looks : TimersMet → element.Leaf → Option (Unit {0}) × TimersMet
+looks v l = (then_some (not (admission v l).0) tt, record v { passed = min (v.passed + 1) (2 ^ 32 - 1); marks = (admission v l).1 })

@@ -1,10 +1,8 @@
 -- What a walk through elements comes to.
-use Rattle.std.specs.Prelude.{ℕ, zero, suc, ◌+◌, Bool, List, [], ◌∷◌, take, Option, Some, None, Result, Ok, Err, if◌then◌else◌}
+use Rattle.std.specs.Prelude.{ℕ, ◌+◌, Bool, List, [], ◌∷◌, take, Option, Some, None, Result, Ok, Err}
 use Rattle.ladder_tree.specs.declared.element.Leaf as element
 use Rattle.ladder_tree.specs.declared.fault.ProjectFault.{ProjectFault}
 use Rattle.ladder_rules.specs.Places.{Placed, Spot}
-use Rattle.ladder_rules.specs.declared.search.Search.{Search}
-use Rattle.ladder_rules.specs.declared.search.Search.TheVariants.{Found, Left}
 
 -- element number k of all elements, in its place
 abbrev pub spot_at : List element.Leaf → ℕ → element.Leaf → Bool → Spot
@@ -22,9 +20,3 @@ walk broken all k (x ∷ xs) = or_on (broken (spot_at all k x.leaf x.at_right_en
 abbrev pub verdict : Option ProjectFault → Result (Unit {0}) ProjectFault
 verdict None = Ok tt
 verdict (Some f) = Err f
-
--- the line of the first of so many elements that is wanted, or how many of them are left
-abbrev pub seek : (element.Leaf → Bool) → ℕ → List element.Leaf → Search
-seek wanted n [] = Left n
-seek wanted zero (l ∷ ls) = Left 0
-seek wanted (suc n) (l ∷ ls) = if wanted l then Found l.line else seek wanted n ls

@@ -11,7 +11,7 @@ use ladder_tree::fault::ProjectFault;
 use ladder_tree::project::Project;
 
 /// A rule that each element keeps or breaks where the target is a chip. Its fault has its name.
-#[derive(Clone, Copy, Debug, PartialEq, Eq)]
+#[derive(Clone, Copy)]
 pub enum ChipRule {
     NoAdc,
     NoPwm,

@@ -9,7 +9,7 @@ use ladder_tree::element::{LeafKind, MathHow, TimerHow};
 use ladder_tree::project::{Node, Rung};
 
 /// A column of the table of costs.
-#[derive(Clone, Copy, Debug, PartialEq, Eq)]
+#[derive(Clone, Copy)]
 pub enum Column {
     /// Words of program flash.
     Words,

@@ -25,7 +25,7 @@ use ladder_tree::names::Names;
 use ladder_tree::project::Project;
 
 /// A project that is within the limits and keeps the rules, and its names.
-#[derive(Debug, Drop)]
+#[derive(Drop)]
 pub struct Legal {
     project: Project,
     names: Names,

@@ -6,6 +6,7 @@ ghost use Rattle.ladder_rules.specs.Needs.{feature, feature_words, word_need, cy
 
 use crate::cost::{Column, fixed, total};
 use crate::legal::Legal;
+use crate::limits::{F628_BOOT, F877_BOOT, MEGA16_BOOT, TOF_BOOT};
 use crate::survey::{any_uses, count_tofs};
 use chip_tables::{CostKind, Target};
 use ladder_tree::project::Project;
@@ -62,10 +63,10 @@ pub fn boot_cap(legal: &Legal) -> u32
 {
     let project = legal.project();
     let plain = match project.target {
-        Target::F628 => 4000,
-        Target::F877 => 6000,
-        Target::Mega16 => 14000,
+        Target::F628 => F628_BOOT,
+        Target::F877 => F877_BOOT,
+        Target::Mega16 => MEGA16_BOOT,
         Target::Interp | Target::AnsiC => return 0,
     };
-    plain + 20 * count_tofs(project.rungs.as_slice())
+    plain + TOF_BOOT * count_tofs(project.rungs.as_slice())
 }

@@ -1,18 +1,18 @@
 //! The look for a pin that two names have, which takes no memory.
 
-ghost use Rattle.std.specs.Prelude.{◌≡◌, ◌≤◌, replicate};
+ghost use Rattle.std.specs.Prelude.{◌≡◌, ◌<◌, Some};
 ghost use Rattle.ladder_tree.specs.declared.fault.ProjectFault.TheVariants as fault;
-ghost use Rattle.ladder_rules.specs.Owners.{line_of, claims};
+ghost use Rattle.ladder_rules.specs.Owners.{line_of, is_another, is_anothers, claimed, tried, claims};
+ghost use Rattle.ladder_rules.specs.Sought.{seeks};
+ghost use Rattle.ladder_rules.specs.declared.limits.TheConstants.{TABLE_PINS};
 ghost use Rattle.ladder_rules.specs.Verdict.{pin_twice};
 
-use crate::pins::{is_chip, pinned};
+use crate::limits::TABLE_PINS;
+use crate::pins::{is_chip, name_at, pinned};
 use ladder_tree::element::{Leaf, Name};
 use ladder_tree::fault::ProjectFault;
 use ladder_tree::project::{PinLine, Project};
 use ladder_tree::visit::{Visitor, visit_all};
-
-/// How many pins 16 bits tell apart.
-const PINS: usize = 65536;
 
 /// The line of an element whose pin another name has.
 #[derive(Clone, Copy)]
@@ -21,11 +21,45 @@ pub struct Clash {
     pub pin: u16,
 }
 
-/// Whose each pin is: 0 for nobody's, or the number of the pin line of the name, counted from 1.
+/// Stops at the first element with a pin, with whether its name is another.
+#[derive(Clone, Copy)]
+struct PinSought<'a> {
+    pins: &'a [PinLine],
+    pin: u16,
+    name: &'a Name,
+}
+
+impl Visitor for PinSought<'_> {
+    type Stop = bool;
+
+    ghost at = { seeks is_another };
+
+    fn visit(&mut self, leaf: &Leaf) -> Option<bool> {
+        let other = name_at(self.pins, self.pin, &leaf.kind)?;
+        Some(self.name.as_slice() != other.as_slice())
+    }
+}
+
+/// Whether the first name with a pin is another.
+fn is_anothers(project: &Project, pin: u16, name: &Name) -> bool
+    ensures { result ≡ is_anothers project.now pin name.now }
+{
+    let mut sought = PinSought {
+        pins: project.pins.as_slice(),
+        pin,
+        name,
+    };
+    match visit_all(&mut sought, project.rungs.as_slice()) {
+        Some(is_another) => is_another,
+        None => false,
+    }
+}
+
+/// Whose each pin of the table is: 0 for nobody's, or the number of the pin line of the name, counted from 1.
 #[derive(Drop)]
 struct Owners<'a> {
-    pins: &'a [PinLine],
-    owners: [usize; PINS],
+    project: &'a Project,
+    owners: [usize; TABLE_PINS],
 }
 
 impl Visitor for Owners<'_> {
@@ -35,18 +69,39 @@ impl Visitor for Owners<'_> {
 
     fn visit(&mut self, leaf: &Leaf) -> Option<Clash> {
         let name = pinned(&leaf.kind)?;
-        let (number, pin) = line_of(self.pins, name)?;
-        if pin == 0 {
-            return None;
-        }
-        let owner = self.owners[usize::from(pin)];
-        if owner == 0 {
-            self.owners[usize::from(pin)] = number;
-            return None;
-        }
+        let pin = tried(self.project, &mut self.owners, name)?;
         let line = leaf.line;
-        (owner != number).then_some(Clash { line, pin })
+        Some(Clash { line, pin })
     }
+}
+
+/// The pin of a name, where it is another's. A pin of the table that was nobody's is the name's from then on.
+fn tried(project: &Project, owners: &mut [usize; TABLE_PINS], name: &Name) -> Option<u16>
+    ensures { (result, owners.new) ≡ tried project.now owners.old (Some name.now) }
+{
+    let (number, pin) = line_of(project.pins.as_slice(), name)?;
+    if pin == 0 {
+        return None;
+    }
+    let is_taken = if usize::from(pin) < TABLE_PINS {
+        claimed(owners, usize::from(pin), number)
+    } else {
+        is_anothers(project, pin, name)
+    };
+    is_taken.then_some(pin)
+}
+
+/// Whether a pin of the table is another's.
+fn claimed(owners: &mut [usize; TABLE_PINS], pin: usize, number: usize) -> bool
+    requires { pin < TABLE_PINS }
+    ensures { (result, owners.new) ≡ claimed owners.old pin number }
+{
+    let owner = owners[pin];
+    if owner == 0 {
+        owners[pin] = number;
+        return false;
+    }
+    owner != number
 }
 
 /// The number and the pin of the first line with a name.
@@ -62,17 +117,6 @@ fn line_of(pins: &[PinLine], name: &Name) -> Option<(usize, u16)>
     None
 }
 
-/// A table in which no pin is anybody's.
-fn nobodys(pins: &[PinLine]) -> Owners<'_>
-    ensures pins { result.pins.now ≡ pins.now }
-    ensures owners { result.owners ≡ replicate 65536 0 }
-{
-    Owners {
-        pins,
-        owners: [0; PINS],
-    }
-}
-
 /// The fault of the first element whose pin an earlier name has, on a chip.
 pub fn pin_twice(project: &Project) -> Option<ProjectFault>
     ensures { result ≡ pin_twice project.now }
@@ -80,7 +124,10 @@ pub fn pin_twice(project: &Project) -> Option<ProjectFault>
     if !is_chip(project.target) {
         return None;
     }
-    let mut owners = nobodys(project.pins.as_slice());
+    let mut owners = Owners {
+        project,
+        owners: [0; TABLE_PINS],
+    };
     match visit_all(&mut owners, project.rungs.as_slice()) {
         Some(clash) => Some(fault_of(clash)),
         None => None,
@@ -88,8 +135,7 @@ pub fn pin_twice(project: &Project) -> Option<ProjectFault>
 }
 
 fn fault_of(clash: Clash) -> ProjectFault
-    ensures fault { result ≡ fault.PinTwice clash.line clash.pin }
-    ensures small { clash.pin ≤ 65535 }
+    ensures { result ≡ fault.PinTwice clash.line clash.pin }
 {
     ProjectFault::PinTwice {
         line: clash.line,

@@ -3,7 +3,7 @@
 ghost use Rattle.std.specs.Prelude.{◌≡◌};
 ghost use Rattle.std.specs.Option.{option_map};
 ghost use Rattle.ladder_tree.specs.Leaves.{all_leaves};
-ghost use Rattle.ladder_rules.specs.Pins.{is_chip, pinned, pin_of, pin_at, is_unassigned, wrong_pin, taken_pin, serves, is_pin, is_taken};
+ghost use Rattle.ladder_rules.specs.Pins.{is_chip, pinned, pin_of, pin_at, name_at, is_unassigned, wrong_pin, taken_pin, serves, is_pin, is_taken};
 
 use crate::survey::any_uses;
 use chip_tables::{CostKind, Target, adc_channel, pin_of as port_bit, pwm_pin, rx_pin, tx_pin};
@@ -56,7 +56,7 @@ pub fn pinned(kind: &LeafKind) -> Option<&Name>
 }
 
 /// The pin of a name, by the first pin line with the name.
-fn pin_of(pins: &[PinLine], name: &Name) -> Option<u16>
+pub fn pin_of(pins: &[PinLine], name: &Name) -> Option<u16>
     ensures { result ≡ pin_of pins.now name.now }
 {
     for line in pins {
@@ -72,6 +72,17 @@ fn pin_at(pins: &[PinLine], kind: &LeafKind) -> Option<u16>
     ensures { result ≡ pin_at pins.now kind.now }
 {
     pin_of(pins, pinned(kind)?)
+}
+
+/// The name of an element, where it has the pin.
+pub fn name_at<'a>(pins: &[PinLine], pin: u16, kind: &'a LeafKind) -> Option<&'a Name>
+    ensures { option_map (λ name. name.now) result ≡ name_at pins.now pin kind.now }
+{
+    if is_pin(pin, pin_at(pins, kind)) {
+        pinned(kind)
+    } else {
+        None
+    }
 }
 
 /// Whether the name for which an element needs a pin has none.

@@ -9,6 +9,7 @@ ghost use Rattle.ladder_rules.specs.Rules.{first_rate as rate_in};
 ghost use Rattle.ladder_rules.specs.Walk.{spot_at};
 
 use crate::chip_rule::{ChipRule, chip_fault};
+use crate::limits::LONGEST_PERIOD;
 use crate::pins::is_chip;
 use crate::search::{first_rate, first_timer};
 use ladder_tree::element::{CounterHow, Leaf, LeafKind};
@@ -16,11 +17,8 @@ use ladder_tree::fault::ProjectFault;
 use ladder_tree::names::begins_with;
 use ladder_tree::project::Project;
 
-/// The most cycles that a timer counts.
-const LONGEST_PERIOD: u32 = 32767;
-
 /// A rule that each element keeps or breaks. Its fault has its name.
-#[derive(Clone, Copy, Debug, PartialEq, Eq)]
+#[derive(Clone, Copy)]
 pub enum ElementRule {
     NotRightmost,
     WrongKind,

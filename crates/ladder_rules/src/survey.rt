@@ -2,13 +2,15 @@
 
 ghost use Rattle.std.specs.Prelude.{◌≡◌, ◌^◌, ◌<◌};
 ghost use Rattle.std.specs.List.{list_any};
-ghost use Rattle.ladder_tree.specs.Leaves.{leaves, leaves_in, all_leaves};
-ghost use Rattle.ladder_rules.specs.Needs.{uses, has_mul, has_div, tofs_in};
+ghost use Rattle.ladder_tree.specs.Leaves.{all_leaves};
+ghost use Rattle.ladder_rules.specs.Needs.{uses, has_mul, has_div, is_tof, tofs_in};
+ghost use Rattle.ladder_rules.specs.Sought.{seeks_any, counts_tofs};
 
 use crate::kinds::{is_adc, is_persist, is_pwm, is_uart};
 use chip_tables::CostKind;
-use ladder_tree::element::{LeafKind, MathHow, TimerHow};
-use ladder_tree::project::{Node, Rung};
+use ladder_tree::element::{Leaf, LeafKind, MathHow, TimerHow};
+use ladder_tree::project::Rung;
+use ladder_tree::visit::{Visitor, visit_all};
 
 /// Whether an element makes a feature's words count.
 fn uses(feature: CostKind, kind: &LeafKind) -> bool
@@ -45,37 +47,55 @@ fn has_div(kind: &LeafKind) -> bool
     }
 }
 
+/// Stops at the first element that makes a feature's words count.
+#[derive(Clone, Copy)]
+struct UseSought {
+    feature: CostKind,
+}
+
+impl Visitor for UseSought {
+    type Stop = ();
+
+    ghost at = { seeks_any (λ v l. uses v.feature l.kind) };
+
+    fn visit(&mut self, leaf: &Leaf) -> Option<()> {
+        uses(self.feature, &leaf.kind).then_some(())
+    }
+}
+
 /// Whether any element makes a feature's words count.
 pub fn any_uses(feature: CostKind, rungs: &[Rung]) -> bool
     ensures { result ≡ list_any (λ l. uses feature l.kind) (all_leaves rungs.now) }
 {
-    for rung in rungs {
-        if any_uses_in(feature, rung.nodes.as_slice()) {
-            return true;
-        }
-    }
-    false
+    visit_all(&mut UseSought { feature }, rungs).is_some()
 }
 
-#[cycle(uses)]
-fn any_uses_in(feature: CostKind, nodes: &[Node]) -> bool
-    ensures { result ≡ list_any (λ l. uses feature l.kind) (leaves_in nodes.now) }
-{
-    for node in nodes {
-        if any_uses_at(feature, node) {
-            return true;
-        }
-    }
-    false
+/// How many off-delay timers were met.
+#[derive(Clone, Copy)]
+struct TofsCounted {
+    count: u32,
 }
 
-#[cycle(uses)]
-fn any_uses_at(feature: CostKind, node: &Node) -> bool
-    ensures { result ≡ list_any (λ l. uses feature l.kind) (leaves node.now) }
+impl Visitor for TofsCounted {
+    type Stop = ();
+
+    ghost at = { counts_tofs };
+
+    fn visit(&mut self, leaf: &Leaf) -> Option<()> {
+        if is_tof(&leaf.kind) {
+            self.count = self.count.saturating_add(1);
+        }
+        None
+    }
+}
+
+/// Whether it is an off-delay timer.
+fn is_tof(kind: &LeafKind) -> bool
+    ensures { result ≡ is_tof kind.now }
 {
-    match node {
-        Node::Leaf(leaf) => uses(feature, &leaf.kind),
-        Node::Series(nodes) | Node::Parallel(nodes) => any_uses_in(feature, nodes.as_slice()),
+    match kind {
+        LeafKind::Timer { how, .. } => matches!(how, TimerHow::Tof),
+        _ => false,
     }
 }
 
@@ -84,39 +104,7 @@ pub fn count_tofs(rungs: &[Rung]) -> u32
     requires { tofs_in (all_leaves rungs.now) < 2 ^ 32 }
     ensures { result ≡ tofs_in (all_leaves rungs.now) }
 {
-    let mut count = 0;
-    for rung in rungs {
-        count += count_tofs_in(rung.nodes.as_slice());
-    }
-    count
-}
-
-#[cycle(tofs)]
-fn count_tofs_in(nodes: &[Node]) -> u32
-    requires { tofs_in (leaves_in nodes.now) < 2 ^ 32 }
-    ensures { result ≡ tofs_in (leaves_in nodes.now) }
-{
-    let mut count = 0;
-    for node in nodes {
-        let more = count_tofs_at(node);
-        count += more;
-    }
-    count
-}
-
-#[cycle(tofs)]
-fn count_tofs_at(node: &Node) -> u32
-    requires { tofs_in (leaves node.now) < 2 ^ 32 }
-    ensures { result ≡ tofs_in (leaves node.now) }
-{
-    match node {
-        Node::Leaf(leaf) => match &leaf.kind {
-            LeafKind::Timer {
-                how: TimerHow::Tof,
-                ..
-            } => 1,
-            _ => 0,
-        },
-        Node::Series(nodes) | Node::Parallel(nodes) => count_tofs_in(nodes.as_slice()),
-    }
+    let mut counted = TofsCounted { count: 0 };
+    visit_all(&mut counted, rungs);
+    counted.count
 }

@@ -1,17 +1,37 @@
 //! A quick look at the names of timers, without memory: names with marks of their own differ.
 
-ghost use Rattle.std.specs.Prelude.{◌≡◌, ◌+◌, ◌^◌, ◌<◌, length, None, true};
-ghost use Rattle.ladder_tree.specs.Leaves.{leaves, leaves_in, all_leaves};
-ghost use Rattle.ladder_rules.specs.Timers.{mark_of, admitted, look};
+ghost use Rattle.std.specs.Prelude.{◌≡◌, ◌^◌, ◌<◌, length, None, true};
+ghost use Rattle.ladder_tree.specs.Leaves.{all_leaves};
+ghost use Rattle.ladder_rules.specs.Timers.{mark_of, admitted, looks};
 ghost use Rattle.ladder_rules.specs.Verdict.{offence};
+ghost use Rattle.ladder_rules.specs.declared.limits.TheConstants.{MARKS};
 ghost use Rattle.ladder_rules.specs.declared.rule.ElementRule.TheVariants.{TimerTwice};
 
+use crate::limits::{MARK_FACTOR, MARKS};
 use crate::search::first_timer;
-use ladder_tree::element::{LeafKind, Name};
-use ladder_tree::project::{Node, Project, Rung};
+use ladder_tree::element::{Leaf, LeafKind, Name};
+use ladder_tree::project::{Project, Rung};
+use ladder_tree::visit::{Visitor, visit_all};
 
-/// How many marks there are.
-const MARKS: usize = 65536;
+/// The marks of the timers that were met, of all that the rungs have, and how many elements were met.
+#[derive(Drop)]
+struct TimersMet<'a> {
+    rungs: &'a [Rung],
+    passed: u32,
+    marks: [bool; MARKS],
+}
+
+impl Visitor for TimersMet<'_> {
+    type Stop = ();
+
+    ghost at = { looks };
+
+    fn visit(&mut self, leaf: &Leaf) -> Option<()> {
+        let is_new = admits(&mut self.marks, self.rungs, &leaf.kind, self.passed);
+        self.passed = self.passed.saturating_add(1);
+        (!is_new).then_some(())
+    }
+}
 
 /// Whether no two timers are found to have one name. Only where the mark of a name is set already are the elements before
 /// it searched, so this takes a time in proportion to the elements, but for names that share a mark.
@@ -19,51 +39,20 @@ pub fn timers_differ(project: &Project) -> bool
     requires { length (all_leaves project.now.rungs) < 2 ^ 32 }
     ensures { result ≡ true → offence project.now TimerTwice ≡ None }
 {
-    let mut marks = [false; MARKS];
     let rungs = project.rungs.as_slice();
-    let mut passed = 0;
-    for rung in rungs {
-        match look_in(&mut marks, rungs, rung.nodes.as_slice(), passed) {
-            None => return false,
-            Some(n) => passed = n,
-        }
-    }
-    true
+    visit_all(&mut none_met(rungs), rungs).is_none()
 }
 
-/// The elements of nodes behind `passed` others, of all that the rungs have. Answers how many there are with them, or
-/// nothing where a timer has the name of an earlier one.
-#[cycle(look)]
-fn look_in(marks: &mut [bool; MARKS], rungs: &[Rung], nodes: &[Node], passed: u32) -> Option<u32>
-    requires { passed + length (leaves_in nodes.now) < 2 ^ 32 }
-    ensures { (result, marks.new) ≡ look (all_leaves rungs.now) passed marks.old (leaves_in nodes.now) }
+/// No timer and no element was met.
+fn none_met(rungs: &[Rung]) -> TimersMet<'_>
+    ensures rungs { result.rungs.now ≡ rungs.now }
+    ensures passed { result.passed ≡ 0 }
+    ensures marks { length result.marks ≡ MARKS }
 {
-    let mut k = passed;
-    for node in nodes {
-        match look_at(marks, rungs, node, k) {
-            None => return None,
-            Some(n) => k = n,
-        }
-    }
-    Some(k)
-}
-
-#[cycle(look)]
-fn look_at(marks: &mut [bool; MARKS], rungs: &[Rung], node: &Node, passed: u32) -> Option<u32>
-    requires { passed + length (leaves node.now) < 2 ^ 32 }
-    ensures { (result, marks.new) ≡ look (all_leaves rungs.now) passed marks.old (leaves node.now) }
-{
-    match node {
-        Node::Leaf(leaf) => {
-            if admits(marks, rungs, &leaf.kind, passed) {
-                Some(passed + 1)
-            } else {
-                None
-            }
-        }
-        Node::Series(nodes) | Node::Parallel(nodes) => {
-            look_in(marks, rungs, nodes.as_slice(), passed)
-        }
+    TimersMet {
+        rungs,
+        passed: 0,
+        marks: [false; MARKS],
     }
 }
 
@@ -87,11 +76,11 @@ fn admits(marks: &mut [bool; MARKS], rungs: &[Rung], kind: &LeafKind, passed: u3
 /// A name's mark: a number that depends on its bytes alone.
 fn mark_of(name: &Name) -> usize
     ensures exact { result ≡ mark_of name.now }
-    ensures small { result < 65536 }
+    ensures small { result < MARKS }
 {
     let mut mark = 0;
     for byte in name.as_slice() {
-        mark = (mark * 31 + usize::from(*byte)) % MARKS;
+        mark = (mark * MARK_FACTOR + usize::from(*byte)) % MARKS;
     }
     mark
 }

@@ -35,7 +35,8 @@ of_map P Q f None h k = tt
 of_map P Q f (Some x) h k = k x h
 
 -- what holds of a value that is tried behind another
-of_then : {A B : Type 0} (P : A → Type 0) (Q : B → Type 0) (f : A → Option B) (o : Option A) → IfSome o P → ((x : A) → P x → IfSome (f x) Q) → IfSome (option_and_then f o) Q
+of_then : {A B : Type 0} (P : A → Type 0) (Q : B → Type 0) (f : A → Option B) (o : Option A) → IfSome o P → ((x : A) → P x → IfSome (f x) Q) →
+    IfSome (option_and_then f o) Q
 of_then P Q f None h k = tt
 of_then P Q f (Some x) h k = k x h
 
@@ -43,7 +44,8 @@ of_then P Q f (Some x) h k = k x h
 
 -- an input that is given changes no count
 input_fits : (n : Names) (place : ℕ) (value : List ℕ) (r : Reading) → IsReadingOf n r → IfSome (give_input place value r) (IsReadingOf n)
-input_fits n place value r h = of_map _ (IsReadingOf n) _ (level value) (any (level value)) (λ on t. record { inputs = length-set r.inputs place on ∙ h.inputs; analog = h.analog })
+input_fits n place value r h =
+    of_map _ (IsReadingOf n) _ (level value) (any (level value)) (λ on t. record { inputs = length-set r.inputs place on ∙ h.inputs; analog = h.analog })
 
 -- an analog input that is given changes no count
 analog_fits : (n : Names) (place : ℕ) (value : List ℕ) (r : Reading) → IsReadingOf n r → IfSome (give_analog place value r) (IsReadingOf n)
@@ -173,7 +175,8 @@ line_fine : (n : Names) (d : Draft) (line : List ℕ) → IsFine n d → IfSome 
 line_fine n d line h = of_if (IsFine n) (is_skipped (without_return line)) _ _ h (words_fine n d (tokens (without_return line)) h)
 
 -- behind a line that may be refused
-refused_fine : (n : Names) (line : ℕ) (go_on : Draft → Result Draft ℕ) (o : Option Draft) → IfSome o (IsFine n) → ((d : Draft) → IsFine n d → IfOk (go_on d) (IsFine n)) → IfOk (or_refused line go_on o) (IsFine n)
+refused_fine : (n : Names) (line : ℕ) (go_on : Draft → Result Draft ℕ) (o : Option Draft) → IfSome o (IsFine n) →
+    ((d : Draft) → IsFine n d → IfOk (go_on d) (IsFine n)) → IfOk (or_refused line go_on o) (IsFine n)
 refused_fine n line go_on None h k = tt
 refused_fine n line go_on (Some d) h k = k d h
 

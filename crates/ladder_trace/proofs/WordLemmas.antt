@@ -19,5 +19,6 @@ words_more old new all rest piece behind h now before =
     ∙ ap (λ xs. old ++ xs) (sym (one_more piece (pieces 32 behind)) ∙ ap (filter is_some_bytes) (sym (first_piece 32 rest piece behind h)))
     ∙ before
 
-pub words_end : (old new all : List (List ℕ)) (rest : List ℕ) → All (λ x. x ≢ 32) rest → new ≡ old ++ filter is_some_bytes (rest ∷ []) → old ++ filter is_some_bytes (pieces 32 rest) ≡ all → new ≡ all
+pub words_end : (old new all : List (List ℕ)) (rest : List ℕ) → All (λ x. x ≢ 32) rest → new ≡ old ++ filter is_some_bytes (rest ∷ []) →
+    old ++ filter is_some_bytes (pieces 32 rest) ≡ all → new ≡ all
 words_end old new all rest clean now before = now ∙ ap (λ ps. old ++ filter is_some_bytes ps) (sym (pieces-last 32 rest clean)) ∙ before

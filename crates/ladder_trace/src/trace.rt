@@ -16,7 +16,7 @@ use texts::lines::split_line;
 use thiserror::Error;
 
 /// A reading, and for how many cycles it holds: 1 to 100,000.
-#[derive(Debug, Drop)]
+#[derive(Drop)]
 pub struct Step {
     pub times: u32,
     pub reading: Reading,
@@ -26,7 +26,7 @@ pub struct Step {
 pub type Steps = List<Step>;
 
 /// The EEPROM that a run begins with, and its readings.
-#[derive(Debug, Drop)]
+#[derive(Drop)]
 pub struct Trace {
     /// 512 bytes: FFh where the trace gives none.
     pub eeprom: Bytes,

@@ -15,11 +15,14 @@ texts-append : (ks : List (Bor (List ℕ))) (k : Bor (List ℕ)) → texts (ks +
 texts-append [] k = refl
 texts-append (x ∷ ks) k = ap (λ l. x.now ∷ l) (texts-append ks k)
 
-by_test : (b : Bool) (ks : List (Bor (List ℕ))) (k : Bor (List ℕ)) (rest : List (List ℕ)) → cond b (firsts_from (texts ks) rest) (firsts_from (texts ks ++ k.now ∷ []) rest) ≡ firsts_from (texts (cond b ks (ks ++ k ∷ []))) rest
+by_test : (b : Bool) (ks : List (Bor (List ℕ))) (k : Bor (List ℕ)) (rest : List (List ℕ)) →
+    cond b (firsts_from (texts ks) rest) (firsts_from (texts ks ++ k.now ∷ []) rest) ≡ firsts_from (texts (cond b ks (ks ++ k ∷ []))) rest
 by_test true ks k rest = refl
 by_test false ks k rest = ap (λ l. firsts_from l rest) (sym (texts-append ks k))
 
-pub first_step : (names : List (Bor (List ℕ))) (i : ℕ) (d : Bor (List ℕ)) (ks : List (Bor (List ℕ))) (all : List (List ℕ)) → i < length names → firsts_from (texts ks) (texts (drop i names)) ≡ all → firsts_from (texts (cond (list_any (λ x. bytes_eq (get_or names i d).now x.now) ks) ks (ks ++ get_or names i d ∷ []))) (texts (drop (i + 1) names)) ≡ all
+pub first_step : (names : List (Bor (List ℕ))) (i : ℕ) (d : Bor (List ℕ)) (ks : List (Bor (List ℕ))) (all : List (List ℕ)) → i < length names →
+    firsts_from (texts ks) (texts (drop i names)) ≡ all →
+    firsts_from (texts (cond (list_any (λ x. bytes_eq (get_or names i d).now x.now) ks) ks (ks ++ get_or names i d ∷ []))) (texts (drop (i + 1) names)) ≡ all
 first_step names i d ks all lt h =
     let k = get_or names i d in
     let rest = texts (drop (i + 1) names) in

@@ -10,7 +10,8 @@ at_front xs i x lt is = rw add-one (drop-cons xs i x lt ∙ ap (λ y. y ∷ drop
 pub nodes_front : (ns : List Node) (i : ℕ) (n : Node) → i < length ns → n ≡ get_or ns i n → leaves_in (drop i ns) ≡ leaves n ++ leaves_in (drop (i + 1) ns)
 nodes_front ns i n lt is = ap leaves_in (at_front ns i n lt is)
 
-pub rungs_front : (gs : List Rung) (i : ℕ) (g : Rung) → i < length gs → g ≡ get_or gs i g → all_leaves (drop i gs) ≡ leaves_in g.nodes ++ all_leaves (drop (i + 1) gs)
+pub rungs_front : (gs : List Rung) (i : ℕ) (g : Rung) → i < length gs → g ≡ get_or gs i g →
+    all_leaves (drop i gs) ≡ leaves_in g.nodes ++ all_leaves (drop (i + 1) gs)
 rungs_front gs i g lt is = ap all_leaves (at_front gs i g lt is)
 
 pub none_behind : {A : Type 0} (xs : List A) (i : ℕ) → length xs ≤ i → [] ≡ drop i xs

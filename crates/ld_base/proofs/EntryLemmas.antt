@@ -34,7 +34,8 @@ first f es name e = record {
       ∙ twice (bytes_eq name n) g n (ap (λ v. bytes_eq v n) (same_text f.name.items name e));
 }
   where
-    twice : (b : Bool) (g : Entry) (n : List ℕ) → bytes_eq f.name.items n ≡ b → cond b (Some g.bytes.items) (held_in es n) ≡ cond b (Some g.bytes.items) (cond (bytes_eq f.name.items n) (Some f.bytes.items) (held_in es n))
+    twice : (b : Bool) (g : Entry) (n : List ℕ) → bytes_eq f.name.items n ≡ b →
+        cond b (Some g.bytes.items) (held_in es n) ≡ cond b (Some g.bytes.items) (cond (bytes_eq f.name.items n) (Some f.bytes.items) (held_in es n))
     twice true g n t = refl
     twice false g n t = ap (λ b. cond b (Some f.bytes.items) (held_in es n)) (sym t)
 
@@ -52,7 +53,8 @@ pub found : (es : List Entry) (name : List ℕ) (j k : ℕ) → place_from j es 
 found [] name j k h = absurd cc
 found (f ∷ es) name j k h = by (λ i. found es name (j + 1) i) (bytes_eq f.name.items name) k refl h
   where
-    by : ((i : ℕ) → place_from (j + 1) es name ≡ Some (j + 1 + i) → Found es name i) → (b : Bool) (k : ℕ) → bytes_eq f.name.items name ≡ b → cond b (Some j) (place_from (j + 1) es name) ≡ Some (j + k) → Found (f ∷ es) name k
+    by : ((i : ℕ) → place_from (j + 1) es name ≡ Some (j + 1 + i) → Found es name i) → (b : Bool) (k : ℕ) → bytes_eq f.name.items name ≡ b →
+        cond b (Some j) (place_from (j + 1) es name) ≡ Some (j + k) → Found (f ∷ es) name k
     by rec true k e h = let same : j ≡ j + k = cc in let none : k ≡ 0 = omega arith in subst (Found (f ∷ es) name) (sym none) (first f es name e)
     by rec false zero e h = let le = place_at_least es name (j + 1) (j + 0) h in absurd (omega (arith, le))
     by rec false (suc k) e h = let at : j + suc k ≡ j + 1 + k = omega arith in later f es name k e (rec k (h ∙ ap Some at))
@@ -61,12 +63,14 @@ pub missing : (es : List Entry) (name : List ℕ) (j : ℕ) → place_from j es 
 missing [] name j h = refl
 missing (f ∷ es) name j h = by (missing es name (j + 1)) (bytes_eq f.name.items name) h
   where
-    by : (place_from (j + 1) es name ≡ None → held_in es name ≡ None) → (b : Bool) → cond b (Some j) (place_from (j + 1) es name) ≡ None → cond b (Some f.bytes.items) (held_in es name) ≡ None
+    by : (place_from (j + 1) es name ≡ None → held_in es name ≡ None) → (b : Bool) → cond b (Some j) (place_from (j + 1) es name) ≡ None →
+        cond b (Some f.bytes.items) (held_in es name) ≡ None
     by rec true h = cc
     by rec false h = rec h
 
 -- an entry behind the others
-pub pushed : (es : List Entry) (e : Entry) (n : List ℕ) → held_in es e.name.items ≡ None → held_in (es ++ e ∷ []) n ≡ cond (bytes_eq e.name.items n) (Some e.bytes.items) (held_in es n)
+pub pushed : (es : List Entry) (e : Entry) (n : List ℕ) → held_in es e.name.items ≡ None →
+    held_in (es ++ e ∷ []) n ≡ cond (bytes_eq e.name.items n) (Some e.bytes.items) (held_in es n)
 pushed [] e n h = refl
 pushed (f ∷ es) e n h = by (pushed es e n) (bytes_eq f.name.items e.name.items) h refl
   where
@@ -78,14 +82,16 @@ pushed (f ∷ es) e n h = by (pushed es e n) (bytes_eq f.name.items e.name.items
         clash t u = cc
 
 -- the found place with other bytes
-pub grown : (es : List Entry) (name : List ℕ) (k : ℕ) (more : List ℕ) (d e : Entry) → Found es name k → e.name ≡ (get_or es k d).name → e.bytes.items ≡ (get_or es k d).bytes.items ++ more → Grows (held_in es) (held_in (set es k e)) name more
+pub grown : (es : List Entry) (name : List ℕ) (k : ℕ) (more : List ℕ) (d e : Entry) → Found es name k → e.name ≡ (get_or es k d).name →
+    e.bytes.items ≡ (get_or es k d).bytes.items ++ more → Grows (held_in es) (held_in (set es k e)) name more
 grown es name k more d e f same bytes n = f.replaced d e n same ∙ by (bytes_eq name n) refl
   where
     by : (b : Bool) → bytes_eq name n ≡ b → cond b (Some e.bytes.items) (held_in es n) ≡ cond b (option_map (λ x. x ++ more) (held_in es n)) (held_in es n)
     by true t = ap Some bytes ∙ ap (option_map (λ x. x ++ more)) (sym (f.held d) ∙ ap (held_in es) (same_text name n t))
     by false t = refl
 
-pub unchanged : (es : List Entry) (name : List ℕ) (k : ℕ) (d e : Entry) → Found es name k → e.name ≡ (get_or es k d).name → e.bytes.items ≡ (get_or es k d).bytes.items → SameHeld (held_in es) (held_in (set es k e))
+pub unchanged : (es : List Entry) (name : List ℕ) (k : ℕ) (d e : Entry) → Found es name k → e.name ≡ (get_or es k d).name →
+    e.bytes.items ≡ (get_or es k d).bytes.items → SameHeld (held_in es) (held_in (set es k e))
 unchanged es name k d e f same bytes n = f.replaced d e n same ∙ by (bytes_eq name n) refl
   where
     by : (b : Bool) → bytes_eq name n ≡ b → cond b (Some e.bytes.items) (held_in es n) ≡ held_in es n
@@ -106,5 +112,6 @@ pub located : (es : List Entry) (name : List ℕ) (o : Option ℕ) → o ≡ pla
 located es name None h = missing es name 0 (sym h)
 located es name (Some k) h = let at : k ≡ 0 + k = omega arith in found es name 0 k (sym h ∙ ap Some at)
 
-pub pushed_as : (es : List Entry) (e : Entry) (name : List ℕ) → e.name.items ≡ name → held_in es name ≡ None → HoldsThen (held_in es) (held_in (es ++ e ∷ [])) name e.bytes.items
+pub pushed_as : (es : List Entry) (e : Entry) (name : List ℕ) → e.name.items ≡ name → held_in es name ≡ None →
+    HoldsThen (held_in es) (held_in (es ++ e ∷ [])) name e.bytes.items
 pushed_as es e name same none n = pushed es e n (ap (held_in es) same ∙ none) ∙ ap (λ v. cond (bytes_eq v n) (Some e.bytes.items) (held_in es n)) same

@@ -235,8 +235,10 @@ table_said (d ∷ i ∷ []) = tt
 table_said (d ∷ i ∷ c ∷ []) = tt
 table_said (d ∷ i ∷ c ∷ f ∷ vs) =
     let head : IfIs (table_head d i) HeadFits = if_both IsNamed IsReadOperand (name d) (operand i) (name_said d) (operand_said i) in
-    let how : IfIs (both (natural_in 0 most_items c) (flag f)) HowFits = if_both (λ n. (0 ≤ n) × (n ≤ most_items)) (λ x. Unit {0}) (natural_in 0 most_items c) (flag f) (natural_said 0 most_items c) (anything (flag f)) in
-    let tail : IfIs (both (both (natural_in 0 most_items c) (flag f)) (integers vs)) TailFits = if_both HowFits AreIntegers (both (natural_in 0 most_items c) (flag f)) (integers vs) how (integers_said vs) in
+    let how : IfIs (both (natural_in 0 most_items c) (flag f)) HowFits =
+    if_both (λ n. (0 ≤ n) × (n ≤ most_items)) (λ x. Unit {0}) (natural_in 0 most_items c) (flag f) (natural_said 0 most_items c) (anything (flag f)) in
+    let tail : IfIs (both (both (natural_in 0 most_items c) (flag f)) (integers vs)) TailFits =
+    if_both HowFits AreIntegers (both (natural_in 0 most_items c) (flag f)) (integers vs) how (integers_said vs) in
     let whole = both (table_head d i) (both (both (natural_in 0 most_items c) (flag f)) (integers vs)) in
     if_then (λ p. counted p.0.0 p.0.1 p.1.0.0 p.1.0.1 p.1.1) IsRead whole
     (if_weak (λ p. HeadFits p.0 × TailFits p.1) (λ p. IfIs (counted p.0.0 p.0.1 p.1.0.0 p.1.0.1 p.1.1) IsRead) whole

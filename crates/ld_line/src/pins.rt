@@ -10,7 +10,7 @@ use ladder_tree::project::PinLine;
 use std::alloc::{AllocError, Global};
 
 /// What a line of a pin list says.
-#[derive(Debug, Drop)]
+#[derive(Drop)]
 pub enum PinsLine {
     /// A name and its pin.
     Pin(PinLine),

@@ -17,7 +17,7 @@ pub enum Circuit {
 }
 
 /// What a line below `PROGRAM` says.
-#[derive(Debug, Drop)]
+#[derive(Drop)]
 pub enum RungLine {
     /// A rung begins.
     Rung,

@@ -4,7 +4,7 @@ ghost use Rattle.std.specs.Prelude.{◌≡◌, map};
 ghost use Rattle.ld_line.specs.Said.{both, bare};
 
 /// What bytes say: nothing that is allowed at their place, a number outside its range, or this.
-#[derive(Debug, Drop)]
+#[derive(Drop)]
 pub enum Said<T> {
     /// The bytes have none of the shapes that are allowed at their place.
     Bad,

@@ -18,8 +18,8 @@ use Rattle.ld_line.specs.declared.said.Said.TheVariants.{Is}
 use Rattle.ld_line.specs.declared.rungs.RungLine.TheVariants as rung
 use Rattle.ld_line.specs.declared.word.Word.{Word}
 use Rattle.ld_line.specs.declared.word.Word.TheVariants as word
-use Rattle.ld_text.specs.declared.form.Mark.TheVariants as mark
-use Rattle.ld_text.specs.declared.form.Form.TheVariants.{Body}
+use Rattle.ld_text.specs.declared.heard.Mark.TheVariants as mark
+use Rattle.ld_text.specs.declared.heard.LineForm.TheVariants.{Body}
 use Rattle.ld_text.specs.declared.place.Site.TheVariants as site
 use Rattle.ld_text.specs.Place.{unless_blank, inside, said_in}
 use Rattle.ld_text.specs.Faults.{has_unbuilt_word, begins_unbuilt}

@@ -41,14 +41,13 @@ use Rattle.ld_line.specs.declared.pins.PinsLine.{PinsLine}
 use Rattle.ld_line.specs.declared.pins.PinsLine.TheVariants as pins
 use Rattle.ld_line.specs.declared.word.Word.{Word}
 use Rattle.ld_line.specs.declared.word.Word.TheVariants as word
-use Rattle.ld_text.specs.declared.form.Mark.TheVariants as mark
-use Rattle.ld_text.specs.declared.form.Form.{Form}
-use Rattle.ld_text.specs.declared.form.Form.TheVariants.{Blank, Magic, Header, Pins, Body}
-use Rattle.ld_text.specs.declared.place.Place.{Place}
+use Rattle.ld_text.specs.declared.heard.Mark.TheVariants as mark
+use Rattle.ld_text.specs.declared.heard.LineForm.{LineForm}
+use Rattle.ld_text.specs.declared.heard.LineForm.TheVariants.{Blank, Magic, Header, Pins, Body}
 use Rattle.ld_text.specs.declared.place.Site.{Site}
 use Rattle.ld_text.specs.declared.place.Site.TheVariants as site
 use Rattle.ld_text.specs.Lines.{Line, size_of}
-use Rattle.ld_text.specs.Place.{unless_blank, said_in, said_at, behind_form, behind_said, behind_all}
+use Rattle.ld_text.specs.Place.{Place, unless_blank, said_in, said_at, behind_form, behind_said, behind_all}
 use Rattle.ld_text.specs.Place as place
 use Rattle.ld_text.specs.Faults.{is_first, has_unbuilt_word, begins_unbuilt, names_unbuilt, is_bad, is_out_of_range, is_too_deep, is_one_too_many, fault_of, fault_at, first_fault, or_else}
 use Rattle.ld_text.specs.Text.{unblanked, said_by}
@@ -62,7 +61,7 @@ use Rattle.ld_print.proofs.ShorterLemmas.{table_fits, table_room}
 use Rattle.ld_print.proofs.HeadLemmas.{PinFits}
 
 -- a form that is said again where it is printed
-abbrev pub FormFits : Form → Type 0
+abbrev pub FormFits : LineForm → Type 0
 FormFits Blank = Unit {0}
 FormFits Magic = Unit {0}
 FormFits (Header (header.Micro (Some t))) = is_target_built t ≡ true
@@ -80,13 +79,13 @@ FormFits (Body (mark.Open c)) = Unit {0}
 FormFits (Body mark.End) = Unit {0}
 FormFits (Body (mark.Element l)) = IsPrintable l.kind
 
-pub record Fine (p : Place) (f : Form) : Type 0 where
+pub record Fine (p : Place) (f : LineForm) : Type 0 where
   pub allowed : AllowedAt p.site f
   pub shallow : is_too_deep p (Is f) ≡ false
   pub few : is_one_too_many p (Is f) ≡ false
   pub fits : FormFits f
 
-abbrev pub AllFine : Place → List Form → Type 0
+abbrev pub AllFine : Place → List LineForm → Type 0
 AllFine p [] = p.site ≡ site.Between
 AllFine p (f ∷ fs) = Fine p f × AllFine (behind_form p f) fs
 
@@ -311,7 +310,8 @@ record NameFirst (ts : List (List ℕ)) (p : pin.PinLine) : Type 0 where
   rest : List (List ℕ)
   is : ts ≡ p.name ∷ rest
 
-pin_named : (n : List ℕ) (b : Bool) (s : Said ℕ) (p : pin.PinLine) → said_map (λ p. pins.Pin (record { name = p.0; pin = p.1 })) (both (if b then Is n else Bad) s) ≡ Is (pins.Pin p) → n ≡ p.name
+pin_named : (n : List ℕ) (b : Bool) (s : Said ℕ) (p : pin.PinLine) →
+    said_map (λ p. pins.Pin (record { name = p.0; pin = p.1 })) (both (if b then Is n else Bad) s) ≡ Is (pins.Pin p) → n ≡ p.name
 pin_named n true Bad p h = absurd cc
 pin_named n true Range p h = absurd cc
 pin_named n true (Is k) p h =
@@ -375,12 +375,12 @@ not_over : (n k : ℕ) → ltb n k ≡ false → k ≤ n
 not_over n k h = grind (arith, nat_tests)
 
 -- what is known of a line at a place that is not the first
-record Seen (p : Place) (bytes : List ℕ) (f : Form) : Type 0 where
+record Seen (p : Place) (bytes : List ℕ) (f : LineForm) : Type 0 where
   short : length bytes ≤ 512
   free : begins_unbuilt p.target (tokens bytes) ≡ false
   built : names_unbuilt (Is f) ≡ false
 
-seen : (p : Place) (bytes : List ℕ) (size : ℕ) (f : Form) → is_first p.site ≡ false → Passes p bytes size (Is f) → Seen p bytes f
+seen : (p : Place) (bytes : List ℕ) (size : ℕ) (f : LineForm) → is_first p.site ≡ false → Passes p bytes size (Is f) → Seen p bytes f
 seen p bytes size f e all =
     let k = or_parts (begins_unbuilt p.target (tokens bytes)) (names_unbuilt (Is f)) (ap (λ b. not b && (begins_unbuilt p.target (tokens bytes) || names_unbuilt (Is f))) (sym e) ∙ all.built) in
     record { short = not_over 512 (length bytes) all.short; free = k.0; built = k.1 }
@@ -400,7 +400,7 @@ setting_fits p number bytes size h e said all =
     by header.Pins r b = tt
     by header.Program r b = tt
 
-form_fits : (p : Place) (number : ℕ) (bytes : List ℕ) (size : ℕ) (f : Form) → AllowedAt p.site f → said_in p.site number bytes ≡ Is f
+form_fits : (p : Place) (number : ℕ) (bytes : List ℕ) (size : ℕ) (f : LineForm) → AllowedAt p.site f → said_in p.site number bytes ≡ Is f
     → Passes p bytes size (Is f) → IsLine bytes → FormFits f
 form_fits p number bytes size Blank a said all clean = tt
 form_fits p number bytes size Magic a said all clean = tt
@@ -417,13 +417,13 @@ form_fits p number bytes size (Body (mark.Element l)) a said all clean =
     let s = seen p bytes size (Body (mark.Element l)) (ap is_first e) all in
     printable number bytes l s.short clean (ap (λ x. said_in x number bytes) (sym e) ∙ said)
 
-fine_line : (p : Place) (number : ℕ) (l : Line) (f : Form) → fault_at p number l ≡ None → said_at p number l ≡ Is f → IsLine l.bytes → Fine p f
+fine_line : (p : Place) (number : ℕ) (l : Line) (f : LineForm) → fault_at p number l ≡ None → said_at p number l ≡ Is f → IsLine l.bytes → Fine p f
 fine_line p number l f h said clean =
     let all = passes p number l.bytes (size_of l) (Is f) (ap (fault_of p number l.bytes (size_of l)) (sym said) ∙ h) in
     let a = allowed p.site number l.bytes f said in
     record { allowed = a; shallow = all.shallow; few = (or_parts (is_one_too_many p (Is f)) _ all.few).0; fits = form_fits p number l.bytes (size_of l) f a said all clean }
 
-fine_unsized : (p : Place) (f : Form) → Fine p f → Fine (unsized p) f
+fine_unsized : (p : Place) (f : LineForm) → Fine p f → Fine (unsized p) f
 fine_unsized p Blank h = record { allowed = h.allowed; shallow = refl; few = refl; fits = h.fits }
 fine_unsized p Magic h = record { allowed = h.allowed; shallow = refl; few = refl; fits = h.fits }
 fine_unsized p (Header g) h = record { allowed = h.allowed; shallow = refl; few = refl; fits = h.fits }
@@ -438,7 +438,7 @@ end_unsized : (p : Place) (b : Bool) → unsized (if b then record p { site = si
 end_unsized p true = refl
 end_unsized p false = refl
 
-pub behind_unsized : (p : Place) (f : Form) → unsized (behind_form p f) ≡ behind_form (unsized p) f
+pub behind_unsized : (p : Place) (f : LineForm) → unsized (behind_form p f) ≡ behind_form (unsized p) f
 behind_unsized p Blank = refl
 behind_unsized p Magic = refl
 behind_unsized p (Header (header.Micro (Some t))) = refl
@@ -466,8 +466,8 @@ pub none_both : (a b : Option ProjectFault) → or_else a b ≡ None → (a ≡ 
 none_both (Some f) b h = absurd cc
 none_both None b h = (refl, h)
 
-said_more : (p : Place) (f : Form) (others : List (Said Form)) (fs : List Form) → Is f ∷ others ≡ map Is fs → Fine p f
-    → ((gs : List Form) → others ≡ map Is gs → AllFine (unsized (behind_form p f)) gs) → AllFine (unsized p) fs
+said_more : (p : Place) (f : LineForm) (others : List (Said LineForm)) (fs : List LineForm) → Is f ∷ others ≡ map Is fs → Fine p f
+    → ((gs : List LineForm) → others ≡ map Is gs → AllFine (unsized (behind_form p f)) gs) → AllFine (unsized p) fs
 said_more p f others [] h fine rest = absurd cc
 said_more p f others (g ∷ gs) h fine rest =
     let head : Is f ≡ Is g = cc in
@@ -475,15 +475,15 @@ said_more p f others (g ∷ gs) h fine rest =
     let tail : others ≡ map Is gs = cc in
     (subst (Fine (unsized p)) same (fine_unsized p f fine), subst (λ x. AllFine x gs) (behind_unsized p f ∙ ap (behind_form (unsized p)) same) (rest gs tail))
 
-one_more : (p : Place) (f : Form) (others : List (Said Form)) (fs : List Form) → unblanked (Is f) others ≡ map Is fs → Fine p f
-    → ((gs : List Form) → others ≡ map Is gs → AllFine (unsized (behind_form p f)) gs) → AllFine (unsized p) fs
+one_more : (p : Place) (f : LineForm) (others : List (Said LineForm)) (fs : List LineForm) → unblanked (Is f) others ≡ map Is fs → Fine p f
+    → ((gs : List LineForm) → others ≡ map Is gs → AllFine (unsized (behind_form p f)) gs) → AllFine (unsized p) fs
 one_more p Blank others fs h fine rest = rest fs h
 one_more p Magic others fs h fine rest = said_more p Magic others fs h fine rest
 one_more p (Header g) others fs h fine rest = said_more p (Header g) others fs h fine rest
 one_more p (Pins g) others fs h fine rest = said_more p (Pins g) others fs h fine rest
 one_more p (Body g) others fs h fine rest = said_more p (Body g) others fs h fine rest
 
-pub fine_lines : (ls : List Line) (p : Place) (n : ℕ) (fs : List Form) → AllClean ls → first_fault p n ls ≡ None → said_by p n ls ≡ map Is fs
+pub fine_lines : (ls : List Line) (p : Place) (n : ℕ) (fs : List LineForm) → AllClean ls → first_fault p n ls ≡ None → said_by p n ls ≡ map Is fs
     → (behind_all p n ls).site ≡ site.Between → AllFine (unsized p) fs
 fine_lines [] p n [] c h said e = e
 fine_lines [] p n (f ∷ fs) c h said e = absurd cc
@@ -496,8 +496,8 @@ fine_lines (l ∷ ls) p n fs c h said e =
     all : Passes p l.bytes (size_of l) (said_at p n l)
     all = passes p n l.bytes (size_of l) (said_at p n l) none.0
 
-    by : (x : Said Form) → said_at p n l ≡ x
-        → ((gs : List Form) → said_by (place.behind p n l) (n + 1) ls ≡ map Is gs → AllFine (unsized (place.behind p n l)) gs) → AllFine (unsized p) fs
+    by : (x : Said LineForm) → said_at p n l ≡ x
+        → ((gs : List LineForm) → said_by (place.behind p n l) (n + 1) ls ≡ map Is gs → AllFine (unsized (place.behind p n l)) gs) → AllFine (unsized p) fs
     by Bad g rest = let no = ap is_bad (sym g) ∙ all.good in absurd cc
     by Range g rest = let no = ap is_out_of_range (sym g) ∙ all.range in absurd cc
     by (Is f) g rest =

@@ -6,13 +6,12 @@ use Rattle.ladder_tree.specs.declared.project.PinLine as pin
 use Rattle.ld_line.specs.Numbers.{most_setting}
 use Rattle.ld_line.specs.Words.{is_target_built}
 use Rattle.ld_line.specs.declared.pins.PinsLine.TheVariants as pins
-use Rattle.ld_text.specs.declared.draft.Settings.{Settings}
-use Rattle.ld_text.specs.declared.form.Form.{Form}
-use Rattle.ld_text.specs.declared.form.Form.TheVariants.{Pins}
-use Rattle.ld_text.specs.declared.place.Place.{Place}
+use Rattle.ld_text.specs.declared.heard.LineForm.{LineForm}
+use Rattle.ld_text.specs.declared.heard.LineForm.TheVariants.{Pins}
+use Rattle.ld_text.specs.Place.{Place}
 use Rattle.ld_text.specs.declared.place.Site.{Site}
 use Rattle.ld_text.specs.declared.place.Site.TheVariants as site
-use Rattle.ld_text.specs.Spelling.{Item, Chip, Cycle, Crystal, Baud, Compiled, PinSection, pin_forms, spelled_item, spelled_items, with_item, with_items}
+use Rattle.ld_text.specs.Spelling.{Settings, Item, Chip, Cycle, Crystal, Baud, Compiled, PinSection, pin_forms, spelled_item, spelled_items, with_item, with_items}
 use Rattle.ld_print.proofs.HeadLemmas.{PinFits}
 use Rattle.ld_print.proofs.FineLemmas.{AllFine}
 
@@ -40,11 +39,12 @@ pub record SettingsFit (s : Settings) : Type 0 where
   pub few : length s.pins ≤ 4000
 
 -- the settings fit, and what stands behind them is known at the place behind them
-pub record Led (x : Site) (s : Settings) (forms : List Form) : Type 0 where
+pub record Led (x : Site) (s : Settings) (forms : List LineForm) : Type 0 where
   pub fit : SettingsFit s
   pub rest : AllFine (place_in x s.target (length s.pins)) forms
 
-pins_led : (ls : List pin.PinLine) (s : Settings) (rest : List Form) → Led site.Pins s (pin_forms ls ++ rest) → Led site.Pins (with_item s (PinSection ls)) rest
+pins_led : (ls : List pin.PinLine) (s : Settings) (rest : List LineForm) → Led site.Pins s (pin_forms ls ++ rest) →
+    Led site.Pins (with_item s (PinSection ls)) rest
 pins_led [] s rest h = subst (λ ps. Led site.Pins (record s { pins = ps }) rest) (sym (append-nil s.pins)) h
 pins_led (l ∷ ls) s rest h =
     let one : Settings = record s { pins = s.pins ++ l ∷ [] } in
@@ -67,7 +67,7 @@ pins_led (l ∷ ls) s rest h =
     below : (n : ℕ) → leb 4000 n ≡ false → n < 4000
     below n h = grind (arith, nat_tests)
 
-item_led : (i : Item) (s : Settings) (rest : List Form) → Led site.Header s (spelled_item i ++ rest) → Led site.Header (with_item s i) rest
+item_led : (i : Item) (s : Settings) (rest : List LineForm) → Led site.Header s (spelled_item i ++ rest) → Led site.Header (with_item s i) rest
 item_led (Chip t) s rest h = record { fit = record { target = h.rest.0.fits; cycle = h.fit.cycle; crystal = h.fit.crystal; baud = h.fit.baud; pins = h.fit.pins; few = h.fit.few }; rest = h.rest.1 }
 item_led (Cycle n) s rest h = record { fit = record { target = h.fit.target; cycle = h.rest.0.fits; crystal = h.fit.crystal; baud = h.fit.baud; pins = h.fit.pins; few = h.fit.few }; rest = h.rest.1 }
 item_led (Crystal n) s rest h = record { fit = record { target = h.fit.target; cycle = h.fit.cycle; crystal = h.rest.0.fits; baud = h.fit.baud; pins = h.fit.pins; few = h.fit.few }; rest = h.rest.1 }
@@ -77,7 +77,7 @@ item_led (PinSection ls) s rest h =
     let inner = pins_led ls s (Pins pins.End ∷ rest) (record { fit = h.fit; rest = subst (AllFine (place_in site.Pins s.target (length s.pins))) (append_assoc (pin_forms ls) (Pins pins.End ∷ []) rest) h.rest.1 }) in
     record { fit = inner.fit; rest = inner.rest.1 }
 
-pub items_led : (is : List Item) (s : Settings) (rest : List Form) → Led site.Header s (spelled_items is ++ rest) → Led site.Header (with_items s is) rest
+pub items_led : (is : List Item) (s : Settings) (rest : List LineForm) → Led site.Header s (spelled_items is ++ rest) → Led site.Header (with_items s is) rest
 items_led [] s rest h = h
 items_led (i ∷ is) s rest h =
     items_led is (with_item s i) rest (item_led i s (spelled_items is ++ rest) (record { fit = h.fit; rest = subst (AllFine (place_in site.Header s.target (length s.pins))) (append_assoc (spelled_item i) (spelled_items is) rest) h.rest }))

@@ -18,8 +18,8 @@ use Rattle.ld_line.specs.declared.said.Said.TheVariants.{Is}
 use Rattle.ld_line.specs.declared.header.HeaderLine.{HeaderLine}
 use Rattle.ld_line.specs.declared.header.HeaderLine.TheVariants as header
 use Rattle.ld_line.specs.declared.pins.PinsLine.TheVariants as pins
-use Rattle.ld_text.specs.declared.form.Form.{Form}
-use Rattle.ld_text.specs.declared.form.Form.TheVariants.{Header, Pins}
+use Rattle.ld_text.specs.declared.heard.LineForm.{LineForm}
+use Rattle.ld_text.specs.declared.heard.LineForm.TheVariants.{Header, Pins}
 use Rattle.ld_text.specs.declared.place.Site.TheVariants as site
 use Rattle.ld_text.specs.Place.{unless_blank, said_in}
 use Rattle.ld_text.specs.Faults.{has_unbuilt_word, begins_unbuilt}
@@ -30,7 +30,7 @@ use Rattle.ld_print.proofs.NumberLemmas.{decimal_token, natural_read}
 use Rattle.ld_print.proofs.LineLemmas.{Fits, clean_token, clean_both}
 use Rattle.ld_print.proofs.OperandLemmas.{name_short, name_read}
 
-pub record HeaderSaid (line : List ℕ) (f : Form) : Type 0 where
+pub record HeaderSaid (line : List ℕ) (f : LineForm) : Type 0 where
   pub said : (number : ℕ) → said_in site.Header number line ≡ Is f
   pub free : (o : Option Target) → begins_unbuilt o (tokens line) ≡ false
   pub fits : Fits line
@@ -98,7 +98,8 @@ pub pin_said : (p : pin.PinLine) → PinFits p → PinSaid (print.pin_line p) p
 pin_said p f =
     let n = name_short p.name f.named in
     let d = decimal_token p.pin (omega (arith, f.number)) in
-    let ts : tokens (print.pin_line p) ≡ p.name ∷ codes "at" ∷ decimal p.pin ∷ [] = ap tokens (pin_is p) ∙ tokens_printed 4 p.name (codes "at" ∷ decimal p.pin ∷ []) n.token (at_token, (d, tt)) in
+    let ts : tokens (print.pin_line p) ≡ p.name ∷ codes "at" ∷ decimal p.pin ∷ [] =
+    ap tokens (pin_is p) ∙ tokens_printed 4 p.name (codes "at" ∷ decimal p.pin ∷ []) n.token (at_token, (d, tt)) in
     let short : length (print.pin_line p) ≤ 100 = omega (arith, length-append p.name (codes " at " ++ decimal p.pin), length-append (codes " at ") (decimal p.pin), n.short, length-decimal-le 3 p.pin (omega arith) (omega (arith, f.number)) (omega (arith, f.number))) in
     record {
       said = λ number.

@@ -4,14 +4,13 @@ use Rattle.ladder_tree.specs.declared.project.Project.{Project}
 use Rattle.ld_line.specs.Numbers.{most_setting}
 use Rattle.ld_line.specs.Words.{is_target_built}
 use Rattle.ld_line.specs.declared.header.HeaderLine.TheVariants as header
-use Rattle.ld_text.specs.declared.draft.Settings.{Settings}
-use Rattle.ld_text.specs.declared.form.Form.TheVariants.{Header, Body}
+use Rattle.ld_text.specs.declared.heard.LineForm.TheVariants.{Header, Body}
 use Rattle.ld_text.specs.declared.place.Site.{Site}
 use Rattle.ld_text.specs.declared.place.Site.TheVariants as site
 use Rattle.ld_text.specs.Lines.{lines_of}
 use Rattle.ld_text.specs.Place.{start, behind_all}
 use Rattle.ld_text.specs.Faults.{first_fault, end_fault}
-use Rattle.ld_text.specs.Spelling.{spelled, spelled_items, spelled_project, defaults, with_items}
+use Rattle.ld_text.specs.Spelling.{Settings, spelled, spelled_items, spelled_project, defaults, with_items}
 use Rattle.ld_text.specs.Text.{IsReadAs}
 use Rattle.ld_print.proofs.FineLemmas.{AllFine, none_both, fine_lines}
 use Rattle.ld_print.proofs.HeadFacts.{place_in, IsBuilt, AllPinsFit, Led, items_led}

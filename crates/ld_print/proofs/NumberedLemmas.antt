@@ -9,9 +9,9 @@ use Rattle.ladder_tree.specs.declared.project.Rung.{Rung}
 use Rattle.ladder_tree.specs.Induct.{Each, node_ind}
 use Rattle.ld_line.specs.declared.rungs.Circuit.{Circuit}
 use Rattle.ld_line.specs.declared.rungs.Circuit.TheVariants as circuit
-use Rattle.ld_text.specs.declared.form.Mark.{Mark}
-use Rattle.ld_text.specs.declared.form.Mark.TheVariants as mark
-use Rattle.ld_text.specs.Reading.{closed}
+use Rattle.ld_text.specs.declared.heard.Mark.{Mark}
+use Rattle.ld_text.specs.declared.heard.Mark.TheVariants as mark
+use Rattle.ld_text.specs.Tree.{closed}
 use Rattle.ld_text.specs.Spelling.{spelled, spelled_node, spelled_nodes}
 use Rattle.ld_text.proofs.TreeLemmas.{spelled-Leaf, spelled-closed}
 use Rattle.ld_print.specs.SameButLines.{unlined, unlined_step, unlined_rung}

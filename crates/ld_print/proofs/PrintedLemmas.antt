@@ -19,15 +19,14 @@ use Rattle.ld_line.specs.declared.said.Said.TheVariants.{Is}
 use Rattle.ld_line.specs.declared.header.HeaderLine.{HeaderLine}
 use Rattle.ld_line.specs.declared.header.HeaderLine.TheVariants as header
 use Rattle.ld_line.specs.declared.pins.PinsLine.TheVariants as pins
-use Rattle.ld_text.specs.declared.form.Mark.{Mark}
-use Rattle.ld_text.specs.declared.form.Mark.TheVariants as mark
-use Rattle.ld_text.specs.declared.form.Form.{Form}
-use Rattle.ld_text.specs.declared.form.Form.TheVariants.{Blank, Magic, Header, Pins, Body}
-use Rattle.ld_text.specs.declared.place.Place.{Place}
+use Rattle.ld_text.specs.declared.heard.Mark.{Mark}
+use Rattle.ld_text.specs.declared.heard.Mark.TheVariants as mark
+use Rattle.ld_text.specs.declared.heard.LineForm.{LineForm}
+use Rattle.ld_text.specs.declared.heard.LineForm.TheVariants.{Blank, Magic, Header, Pins, Body}
 use Rattle.ld_text.specs.declared.place.Site.{Site}
 use Rattle.ld_text.specs.declared.place.Site.TheVariants as site
 use Rattle.ld_text.specs.Lines.{Line, lines_of}
-use Rattle.ld_text.specs.Place.{said_in, behind_form, behind_all, start}
+use Rattle.ld_text.specs.Place.{Place, said_in, behind_form, behind_all, start}
 use Rattle.ld_text.specs.Faults.{begins_unbuilt, names_unbuilt, is_chipless, first_fault, or_else, end_fault}
 use Rattle.ld_text.specs.Spelling.{Chip, Cycle, Crystal, Baud, PinSection, pin_forms, spelled, spelled_project}
 use Rattle.ld_text.specs.Text.{IsReadAs, said_by}
@@ -61,7 +60,7 @@ rungs_go t built gs k b n few f =
 abbrev tail_lines : List Rung → List (List ℕ)
 tail_lines gs = codes "END" ∷ [] ∷ codes "PROGRAM" ∷ print.rungs_lines gs
 
-abbrev tail_forms : ℕ → List Rung → List Form
+abbrev tail_forms : ℕ → List Rung → List LineForm
 tail_forms n gs = Pins pins.End ∷ Header header.Program ∷ map Body (numbered (n + 1 + 1 + 1) (spelled gs))
 
 program_said : (n : ℕ) → said_in site.Header n (codes "PROGRAM") ≡ Is (Header header.Program)
@@ -118,7 +117,7 @@ pins_go t built gs all few f (l ∷ ls) k b n e room h =
 
 -- the settings
 
-header_goes : (t : Option Target) (b n : ℕ) (bytes : List ℕ) (h : HeaderLine) (q : Place) (ls : List Line) (fs : List Form) → HeaderSaid bytes (Header h)
+header_goes : (t : Option Target) (b n : ℕ) (bytes : List ℕ) (h : HeaderLine) (q : Place) (ls : List Line) (fs : List LineForm) → HeaderSaid bytes (Header h)
     → names_unbuilt (Is (Header h)) ≡ false → is_chipless t (Is (Header h)) ≡ false → b ≤ 6000
     → record (behind_form (above site.Header t 0 b) (Header h)) { bytes = b + (length bytes + 1) } ≡ q → Goes q (n + 1) ls fs → Goes (above site.Header t 0 b) n (line_of bytes ∷ ls) (Header h ∷ fs)
 header_goes t b n bytes h q ls fs s built chip few e rest =
@@ -128,7 +127,7 @@ header_goes t b n bytes h q ls fs s built chip few e rest =
 list_said : HeaderSaid (codes "IO LIST") (Header header.Pins)
 list_said = record { said = λ n. refl; free = λ o. refl; fits = record { short = omega arith; clean = refl } }
 
-abbrev read_forms : ℕ → Project → List Form
+abbrev read_forms : ℕ → Project → List LineForm
 read_forms m p =
     Magic ∷ Header (header.Micro (Some p.target)) ∷ Header (header.Cycle p.cycle) ∷ Header (header.Crystal p.crystal) ∷ Header (header.Baud p.baud) ∷ Header header.Pins
     ∷ (pin_forms p.pins ++ tail_forms m p.rungs)
@@ -157,7 +156,7 @@ whole_goes p k =
     let few4 : b4 ≤ 2400 = omega (arith, few3, r.fits.short) in
     let rest = pins_go p.target k.built p.rungs (length p.pins) k.few k.body p.pins 0 b6 8 (omega arith) (omega (arith, few4, k.few)) k.pins in
     let ls : List (List ℕ) = print.pin_lines p.pins ++ tail_lines p.rungs in
-    let fs : List Form = pin_forms p.pins ++ tail_forms rest.0 p.rungs in (
+    let fs : List LineForm = pin_forms p.pins ++ tail_forms rest.0 p.rungs in (
       rest.0,
       goes_more start (above site.Header None 0 11) 1 (codes "LDmicro0.1") Magic _ _
           (record { said = refl; short = omega arith; free = λ e. absurd cc; built = refl; chip = refl; shallow = refl; few = refl; room = omega arith }) refl
@@ -241,8 +240,8 @@ pub record ReadAgain (text : List ℕ) (p : Project) : Type 0 where
 same_forms : (p : Project) (m : ℕ) (gs : List Rung) → spelled gs ≡ numbered (m + 1 + 1 + 1) (spelled p.rungs)
     → read_forms m p ≡ spelled_project (Chip p.target ∷ Cycle p.cycle ∷ Crystal p.crystal ∷ Baud p.baud ∷ PinSection p.pins ∷ []) gs
 same_forms p m gs e =
-    let front : List Form → List Form = λ l. Magic ∷ Header (header.Micro (Some p.target)) ∷ Header (header.Cycle p.cycle) ∷ Header (header.Crystal p.crystal) ∷ Header (header.Baud p.baud) ∷ Header header.Pins ∷ l in
-    let rest : List Form = Header header.Program ∷ map Body (spelled gs) in
+    let front : List LineForm → List LineForm = λ l. Magic ∷ Header (header.Micro (Some p.target)) ∷ Header (header.Cycle p.cycle) ∷ Header (header.Crystal p.crystal) ∷ Header (header.Baud p.baud) ∷ Header header.Pins ∷ l in
+    let rest : List LineForm = Header header.Program ∷ map Body (spelled gs) in
     ap (λ ms. front (pin_forms p.pins ++ (Pins pins.End ∷ Header header.Program ∷ map Body ms))) (sym e)
     ∙ ap front (sym (append_assoc (pin_forms p.pins) (Pins pins.End ∷ []) rest))
     ∙ ap (λ l. front (l ++ rest)) (sym (append-nil (pin_forms p.pins ++ Pins pins.End ∷ [])))

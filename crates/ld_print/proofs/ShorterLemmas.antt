@@ -95,14 +95,17 @@ small_integer (negsuc k) h = omega (arith, size_down k h)
 negative_shorter : (token : List ℕ) (n : ℤ) (o : Option ℕ) → digits token ≡ o → signed true o ≡ Some n → IsSmall n
     → length (signed_decimal n) ≤ suc (length token)
 negative_shorter token n None e g h = absurd cc
-negative_shorter token n (Some zero) e g h = let same : pos 0 ≡ n = cc in subst (λ z. length (signed_decimal z) ≤ suc (length token)) same (omega (arith, length-decimal-le 1 0 (omega arith) (omega arith) (omega arith)))
+negative_shorter token n (Some zero) e g h =
+    let same : pos 0 ≡ n = cc in
+    subst (λ z. length (signed_decimal z) ≤ suc (length token)) same (omega (arith, length-decimal-le 1 0 (omega arith) (omega arith) (omega arith)))
 negative_shorter token n (Some (suc k)) e g h =
     let same : negsuc k ≡ n = cc in
     subst (λ z. length (signed_decimal z) ≤ suc (length token)) same (omega (arith, digits_shorter token (suc k) e (subst IsSmall (sym same) h)))
 
 positive_shorter : (token : List ℕ) (n : ℤ) (o : Option ℕ) → digits token ≡ o → signed false o ≡ Some n → IsSmall n → length (signed_decimal n) ≤ length token
 positive_shorter token n None e g h = absurd cc
-positive_shorter token n (Some k) e g h = let same : pos k ≡ n = cc in subst (λ z. length (signed_decimal z) ≤ length token) same (digits_shorter token k e (subst IsSmall (sym same) h))
+positive_shorter token n (Some k) e g h =
+    let same : pos k ≡ n = cc in subst (λ z. length (signed_decimal z) ≤ length token) same (digits_shorter token k e (subst IsSmall (sym same) h))
 
 number_shorter : (token : List ℕ) (n : ℤ) → number token ≡ Some n → IsSmall n → length (signed_decimal n) ≤ length token
 number_shorter [] n e h = absurd cc

@@ -12,17 +12,16 @@ use Rattle.ld_line.specs.Words.{is_target_built}
 use Rattle.ld_line.specs.declared.said.Said.TheVariants.{Is}
 use Rattle.ld_line.specs.declared.rungs.Circuit.{Circuit}
 use Rattle.ld_line.specs.declared.rungs.Circuit.TheVariants as circuit
-use Rattle.ld_text.specs.declared.form.Mark.{Mark}
-use Rattle.ld_text.specs.declared.form.Mark.TheVariants as mark
-use Rattle.ld_text.specs.declared.form.Form.{Form}
-use Rattle.ld_text.specs.declared.form.Form.TheVariants.{Blank, Magic, Header, Pins, Body}
-use Rattle.ld_text.specs.declared.place.Place.{Place}
+use Rattle.ld_text.specs.declared.heard.Mark.{Mark}
+use Rattle.ld_text.specs.declared.heard.Mark.TheVariants as mark
+use Rattle.ld_text.specs.declared.heard.LineForm.{LineForm}
+use Rattle.ld_text.specs.declared.heard.LineForm.TheVariants.{Blank, Magic, Header, Pins, Body}
 use Rattle.ld_text.specs.declared.place.Site.{Site}
 use Rattle.ld_text.specs.declared.place.Site.TheVariants as site
 use Rattle.ld_text.specs.Lines.{Line}
 use Rattle.ld_line.specs.Rungs.{rung_tokens_say}
 use Rattle.ld_text.proofs.SaidLemmas.{AllowedAt}
-use Rattle.ld_text.specs.Place.{unless_blank, inside, said_in, behind_form, behind_said, behind_all}
+use Rattle.ld_text.specs.Place.{Place, unless_blank, inside, said_in, behind_form, behind_said, behind_all}
 use Rattle.ld_text.specs.Place as place
 use Rattle.ld_text.specs.Faults.{is_first, begins_unbuilt, names_unbuilt, is_chipless, is_too_deep, is_one_too_many, fault_of, fault_at, first_fault, or_else, row, first_row}
 use Rattle.ld_text.specs.Text.{unblanked, said_by}
@@ -38,13 +37,13 @@ abbrev pub line_of : List ℕ → Line
 line_of bytes = record { bytes = bytes; is_ended = true }
 
 -- from a place on, the lines have no fault, say this, and the text may end behind them
-pub record Goes (p : Place) (n : ℕ) (ls : List Line) (fs : List Form) : Type 0 where
+pub record Goes (p : Place) (n : ℕ) (ls : List Line) (fs : List LineForm) : Type 0 where
   pub faultless : first_fault p n ls ≡ None
   pub said : said_by p n ls ≡ map Is fs
   pub closed : (behind_all p n ls).site ≡ site.Between
 
 -- a line of which this is known goes, where there is room for it
-pub record LineGoes (p : Place) (n : ℕ) (bytes : List ℕ) (f : Form) : Type 0 where
+pub record LineGoes (p : Place) (n : ℕ) (bytes : List ℕ) (f : LineForm) : Type 0 where
   pub said : said_in p.site n bytes ≡ Is f
   pub short : length bytes ≤ 512
   pub free : is_first p.site ≡ false → begins_unbuilt p.target (tokens bytes) ≡ false
@@ -58,7 +57,7 @@ no_row : (a b c d e f g h : Bool) (r s t u v w x y : ProjectFault) → a ≡ fal
     → h ≡ false → first_row (row a r ∷ row b s ∷ row c t ∷ row d u ∷ row e v ∷ row f w ∷ row g x ∷ row h y ∷ []) ≡ None
 no_row a b c d e f g h r s t u v w x y ea eb ec ed ee ef eg eh = rw (ea, eb, ec, ed, ee, ef, eg, eh) refl
 
-no_fault : (p : Place) (n : ℕ) (bytes : List ℕ) (f : Form) → LineGoes p n bytes f → fault_at p n (line_of bytes) ≡ None
+no_fault : (p : Place) (n : ℕ) (bytes : List ℕ) (f : LineForm) → LineGoes p n bytes f → fault_at p n (line_of bytes) ≡ None
 no_fault p n bytes f g =
     ap (fault_of p n bytes (length bytes + 1)) g.said
     ∙ no_row (ltb 512 (length bytes)) (is_first p.site && false) (not (is_first p.site) && (begins_unbuilt p.target (tokens bytes) || names_unbuilt (Is f))) false (is_chipless p.target (Is f)) false (is_too_deep p (Is f)) (is_one_too_many p (Is f) || ltb 8388608 (p.bytes + (length bytes + 1)))
@@ -83,17 +82,18 @@ no_fault p n bytes f g =
     few : (b : Bool) → b ≡ false → (b || ltb 8388608 (p.bytes + (length bytes + 1))) ≡ false
     few b h = ap (λ x. x || ltb 8388608 (p.bytes + (length bytes + 1))) h ∙ far
 
-behind_line : (p : Place) (n : ℕ) (bytes : List ℕ) (f : Form) → LineGoes p n bytes f → place.behind p n (line_of bytes) ≡ record (behind_form p f) { bytes = p.bytes + (length bytes + 1) }
+behind_line : (p : Place) (n : ℕ) (bytes : List ℕ) (f : LineForm) → LineGoes p n bytes f →
+    place.behind p n (line_of bytes) ≡ record (behind_form p f) { bytes = p.bytes + (length bytes + 1) }
 behind_line p n bytes f g = ap (behind_said p (length bytes + 1)) g.said
 
-abbrev pub shown : Form → List Form
+abbrev pub shown : LineForm → List LineForm
 shown Blank = []
 shown Magic = Magic ∷ []
 shown (Header h) = Header h ∷ []
 shown (Pins q) = Pins q ∷ []
 shown (Body m) = Body m ∷ []
 
-unblanked-shown : (f : Form) (fs : List Form) → unblanked (Is f) (map Is fs) ≡ map Is (shown f ++ fs)
+unblanked-shown : (f : LineForm) (fs : List LineForm) → unblanked (Is f) (map Is fs) ≡ map Is (shown f ++ fs)
 unblanked-shown Blank fs = refl
 unblanked-shown Magic fs = refl
 unblanked-shown (Header h) fs = refl
@@ -101,7 +101,8 @@ unblanked-shown (Pins q) fs = refl
 unblanked-shown (Body m) fs = refl
 
 -- one line more in front
-pub goes_more : (p q : Place) (n : ℕ) (bytes : List ℕ) (f : Form) (ls : List Line) (fs : List Form) → LineGoes p n bytes f → record (behind_form p f) { bytes = p.bytes + (length bytes + 1) } ≡ q → Goes q (n + 1) ls fs → Goes p n (line_of bytes ∷ ls) (shown f ++ fs)
+pub goes_more : (p q : Place) (n : ℕ) (bytes : List ℕ) (f : LineForm) (ls : List Line) (fs : List LineForm) → LineGoes p n bytes f →
+    record (behind_form p f) { bytes = p.bytes + (length bytes + 1) } ≡ q → Goes q (n + 1) ls fs → Goes p n (line_of bytes ∷ ls) (shown f ++ fs)
 goes_more p q n bytes f ls fs g e rest =
     let next = behind_line p n bytes f g ∙ e in
     record {
@@ -310,7 +311,9 @@ end_steps p i n t g b f =
     none d h = grind (arith, nat_tests)
 
     bounds : (x : Bool) → eqb p.depth 0 ≡ x → Bounds (record (if x then record p { site = site.Between } else record p { depth = p.depth - 1 }) { bytes = p.bytes + (length (indented (i - 4) (codes "END")) + 1) }) (i - 4)
-    bounds true h = let d = none p.depth h in record { indent = (omega (arith, at, d), d); depth = b.depth; rungs = b.rungs; elements = b.elements; openings = b.openings; bytes = sized }
+    bounds true h =
+        let d = none p.depth h in
+        record { indent = (omega (arith, at, d), d); depth = b.depth; rungs = b.rungs; elements = b.elements; openings = b.openings; bytes = sized }
     bounds false h = let d = some p.depth h in record { indent = subst (λ x. IndentAt x (p.depth - 1) (i - 4)) (sym e) (omega (arith, at, d)); depth = omega (arith, b.depth); rungs = b.rungs; elements = b.elements; openings = b.openings; bytes = sized }
 
 element_steps : (p : Place) (i n : ℕ) (t : Target) (l : leaf.Leaf) → p.target ≡ Some t → is_target_built t ≡ true → Bounds p i

@@ -8,10 +8,9 @@ use Rattle.ladder_tree.specs.declared.fault.ProjectFault.TheVariants.{NotProject
 use Rattle.texts.specs.declared.limits.TheConstants.{LINE_BYTES, FILE_BYTES}
 use Rattle.ld_line.specs.Tokens.{tokens}
 use Rattle.ld_line.specs.declared.said.Said.{Said}
-use Rattle.ld_text.specs.declared.form.Form.{Form}
-use Rattle.ld_text.specs.declared.place.Place.{Place}
+use Rattle.ld_text.specs.declared.heard.LineForm.{LineForm}
 use Rattle.ld_text.specs.Lines.{Line, open_line, ended_lines, behind_feeds, lines_of, size_of}
-use Rattle.ld_text.specs.Place.{start, said_in, behind}
+use Rattle.ld_text.specs.Place.{Place, start, said_in, behind}
 use Rattle.ld_text.specs.Faults.{line_of, fault_of, fault_at, first_fault, or_else, is_first, is_bad, is_out_of_range, begins_unbuilt, names_unbuilt, is_chipless, is_too_deep, is_one_too_many}
 use Rattle.ld_text.specs.Text.{IsRefusedAlike, text_fault, early_fault, early_length, judged}
 use Rattle.ld_text.specs.Reading.{Standing, first, Taken, Goes, Stops, taken, taken_as, Mind, Reads, Refuses, line_done, fed, fed_byte, fresh, Verdict, Accepts, Rejects, at_end, finished, next}
@@ -38,7 +37,7 @@ rows_at n false false false false false false true h = refl
 rows_at n false false false false false false false true = refl
 rows_at n false false false false false false false false = tt
 
-fault_of-at : (p : Place) (n : ℕ) (bytes : List ℕ) (size : ℕ) (said : Said Form) → IsAt n (fault_of p n bytes size said)
+fault_of-at : (p : Place) (n : ℕ) (bytes : List ℕ) (size : ℕ) (said : Said LineForm) → IsAt n (fault_of p n bytes size said)
 fault_of-at p n bytes size said =
     rows_at n (ltb LINE_BYTES (length bytes)) (is_first p.site && is_bad said)
     (not (is_first p.site) && (begins_unbuilt p.target (tokens bytes) || names_unbuilt said)) (is_bad said)
@@ -51,7 +50,7 @@ abbrev StopsAt : ℕ → Taken → Type 0
 StopsAt n (Goes s) = ⊥
 StopsAt n (Stops f) = line_of f ≡ n
 
-no_room : (p : Place) (n : ℕ) (bytes : List ℕ) (size : ℕ) (said : Said Form) → FILE_BYTES < p.bytes + size → fault_of p n bytes size said ≡ None → ⊥
+no_room : (p : Place) (n : ℕ) (bytes : List ℕ) (size : ℕ) (said : Said LineForm) → FILE_BYTES < p.bytes + size → fault_of p n bytes size said ≡ None → ⊥
 no_room p n bytes size said over h =
     by (is_one_too_many p said) (ltb FILE_BYTES (p.bytes + size)) (passes p n bytes size said h).few (above FILE_BYTES (p.bytes + size) over)
   where

@@ -1,11 +1,9 @@
 -- Where bytes take a reader.
-use Rattle.std.proofs.Common.{◌≡◌, ℕ, suc, ◌<◌, List, [], ◌∷◌, ◌++◌, length, drop, get_or, Result, Ok, Err, IfOk, IfErr, Some, ◌⊎◌, inl, inr, refl, sym, ap, ◌∙◌, drop-cons}
+use Rattle.std.proofs.Common.{◌≡◌, ℕ, suc, ◌<◌, List, [], ◌∷◌, ◌++◌, length, drop, get_or, refl, sym, ap, ◌∙◌, drop-cons}
 use Rattle.ladder_tree.specs.declared.fault.ProjectFault.{ProjectFault}
 use Rattle.ld_text.specs.declared.fault.TextError.{TextError}
 use Rattle.ld_text.specs.declared.fault.TextError.TheVariants as error
-use Rattle.ld_text.specs.declared.reader.Cursor.{Cursor}
-use Rattle.ld_text.specs.declared.reader.State.TheVariants as state
-use Rattle.ld_text.specs.Reading.{Mind, Refuses, fed, fed_byte, mind_of, mind_at, state_behind, IsRefused}
+use Rattle.ld_text.specs.Reading.{Mind, Refuses, fed, fed_byte, IsRefused}
 
 -- what is refused is refused for good
 pub fed_refused : (f : ProjectFault) (bs : List ℕ) → fed (Refuses f) bs ≡ Refuses f
@@ -22,9 +20,3 @@ pub stopped_at : (start m : Mind) (piece : List ℕ) (i : ℕ) (e : TextError) �
 stopped_at start m piece i (error.Memory a) h g r = tt
 stopped_at start m piece i (error.Refused f) h g r =
     sym h ∙ ap (fed m) (drop-cons piece i 0 g) ∙ ap (λ x. fed x (drop (suc i) piece)) r ∙ fed_refused f (drop (suc i) piece)
-
-pub fed_state : (result : Result Cursor TextError) (m : Mind) (piece : List ℕ) → IfOk result (λ c. mind_of c ≡ fed m piece)
-    → IfErr result (IsRefused (fed m piece)) → (mind_at (state_behind result) ≡ Some (fed m piece)) ⊎ (state_behind result ≡ state.Exhausted)
-fed_state (Ok c) m piece reads refused = inl (ap Some reads)
-fed_state (Err (error.Refused f)) m piece reads refused = inl (ap Some (sym refused))
-fed_state (Err (error.Memory e)) m piece reads refused = inr refl

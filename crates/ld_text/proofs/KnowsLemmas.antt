@@ -19,21 +19,19 @@ use Rattle.ld_line.specs.declared.header.HeaderLine.TheVariants as header
 use Rattle.ld_line.specs.declared.pins.PinsLine.TheVariants as pins
 use Rattle.ld_line.specs.declared.said.Said.TheVariants.{Is}
 use Rattle.ld_line.proofs.RangeLemmas.{in_their_ranges, pins_in_range, settings_in_range}
-use Rattle.ld_text.specs.declared.draft.Frame.{Frame}
-use Rattle.ld_text.specs.declared.draft.Settings.{Settings}
-use Rattle.ld_text.specs.declared.form.Mark.{Mark}
-use Rattle.ld_text.specs.declared.form.Mark.TheVariants as mark
-use Rattle.ld_text.specs.declared.form.Form.{Form}
-use Rattle.ld_text.specs.declared.form.Form.TheVariants.{Blank, Magic, Header, Pins, Body}
-use Rattle.ld_text.specs.declared.place.Place.{Place}
+use Rattle.ld_text.specs.declared.heard.Mark.{Mark}
+use Rattle.ld_text.specs.declared.heard.Mark.TheVariants as mark
+use Rattle.ld_text.specs.declared.heard.LineForm.{LineForm}
+use Rattle.ld_text.specs.declared.heard.LineForm.TheVariants.{Blank, Magic, Header, Pins, Body}
 use Rattle.ld_text.specs.declared.place.Site.{Site}
 use Rattle.ld_text.specs.declared.place.Site.TheVariants as site
 use Rattle.ld_text.specs.Lines.{Line, size_of}
-use Rattle.ld_text.specs.Place.{said_in, behind, behind_said, behind_header, behind_mark}
+use Rattle.ld_text.specs.Place.{Place, said_in, behind, behind_said, behind_header, behind_mark}
 use Rattle.ld_text.specs.Faults.{begins_unbuilt, is_chipless, is_first, fault_of}
-use Rattle.ld_text.specs.Spelling.{Item, Chip, Cycle, Crystal, Baud, Compiled, PinSection, joined, pin_forms, spelled_item, spelled_items, defaults, with_item, with_items}
+use Rattle.ld_text.specs.Spelling.{Settings, Item, Chip, Cycle, Crystal, Baud, Compiled, PinSection, joined, pin_forms, spelled_item, spelled_items, defaults, with_item, with_items}
 use Rattle.ld_text.specs.Text.{unblanked, said_by}
-use Rattle.ld_text.specs.Reading.{Tree, Closed, Building, ended, grown, with_form, settings_behind, RoomFor, Standing, first, standing_behind, Taken, Goes, Stops, taken}
+use Rattle.ld_text.specs.Tree.{Frame, Tree, Closed, Building, ended, grown, with_form}
+use Rattle.ld_text.specs.Reading.{settings_behind, RoomFor, Standing, first, standing_behind, Taken, Goes, Stops, taken}
 use Rattle.ld_text.proofs.TakenLemmas.{Passes, Went, goes, passes, room}
 use Rattle.ld_text.proofs.TreeGrowth.{so_far, Suits, so_far-grown, IsShallow, shallow_grown, depth_at, MayOpen, leaves_of, opens, begins, leaves_of-append, opens-append, begins-append}
 use Rattle.ld_text.proofs.SaidLemmas.{AllowedAt, allowed, header_said, pins_said, element_worded, IsBuilt}
@@ -196,20 +194,20 @@ with_items-one : (s : Settings) (is : List Item) (i : Item) → with_items s (is
 with_items-one s [] i = refl
 with_items-one s (j ∷ is) i = with_items-one (with_item s j) is i
 
-pub record InHeader (fs : List Form) (s : Standing) : Type 0 where
+pub record InHeader (fs : List LineForm) (s : Standing) : Type 0 where
   pub items : List Item
   pub spelled : fs ≡ Magic ∷ spelled_items items
   pub settings : s.settings ≡ with_items defaults items
   pub tree : s.tree ≡ Closed []
 
-pub record InPins (fs : List Form) (s : Standing) : Type 0 where
+pub record InPins (fs : List LineForm) (s : Standing) : Type 0 where
   pub items : List Item
   pub lines : List pin.PinLine
   pub spelled : fs ≡ Magic ∷ (spelled_items items ++ Header header.Pins ∷ pin_forms lines)
   pub settings : s.settings ≡ with_item (with_items defaults items) (PinSection lines)
   pub tree : s.tree ≡ Closed []
 
-pub record InBody (fs : List Form) (s : Standing) : Type 0 where
+pub record InBody (fs : List LineForm) (s : Standing) : Type 0 where
   pub items : List Item
   pub spelled : fs ≡ Magic ∷ (spelled_items items ++ Header header.Program ∷ map Body (so_far s.tree))
   pub settings : s.settings ≡ with_items defaults items
@@ -223,7 +221,7 @@ abbrev pub IsBuilding : Tree → Type 0
 IsBuilding (Closed gs) = ⊥
 IsBuilding (Building gs fs ns) = Unit {0}
 
-abbrev pub KnowsAt : Site → List Form → Standing → Type 0
+abbrev pub KnowsAt : Site → List LineForm → Standing → Type 0
 KnowsAt site.First fs s = (fs ≡ []) × (s.settings ≡ defaults) × (s.tree ≡ Closed [])
 KnowsAt site.Header fs s = InHeader fs s
 KnowsAt site.Pins fs s = InPins fs s
@@ -246,7 +244,7 @@ pub record CountsPins (p : Place) (s : Settings) : Type 0 where
   pub pins : length s.pins ≡ p.pins
   pub few_pins : p.pins ≤ PIN_LINES
 
-pub record Knows (fs : List Form) (s : Standing) : Type 0 where
+pub record Knows (fs : List LineForm) (s : Standing) : Type 0 where
   pub spelled : KnowsAt s.place.site fs s
   pub counts : Counts s.place s.tree
   pub target : s.settings.target ≡ s.place.target
@@ -276,7 +274,7 @@ at_first = record {
 }
 
 -- a blank line adds nothing
-abbrev pub one : Form → List Form
+abbrev pub one : LineForm → List LineForm
 one Blank = []
 one Magic = Magic ∷ []
 one (Header h) = Header h ∷ []
@@ -284,7 +282,7 @@ one (Pins q) = Pins q ∷ []
 one (Body m) = Body m ∷ []
 
 -- the same with another place and no line more
-header_item : (fs : List Form) (s t : Standing) (f : Form) (i : Item) → InHeader fs s → spelled_item i ≡ f ∷ [] → t.settings ≡ with_item s.settings i
+header_item : (fs : List LineForm) (s t : Standing) (f : LineForm) (i : Item) → InHeader fs s → spelled_item i ≡ f ∷ [] → t.settings ≡ with_item s.settings i
     → t.tree ≡ s.tree → InHeader (fs ++ f ∷ []) t
 header_item fs s t f i k e g h = record {
   items = k.items ++ i ∷ [];
@@ -293,7 +291,7 @@ header_item fs s t f i k e g h = record {
   tree = h ∙ k.tree;
 }
 
-body_more : (fs : List Form) (s : Standing) (m : Mark) (t : Standing) → InBody fs s → Suits s.tree m → t.settings ≡ s.settings → t.tree ≡ grown s.tree m
+body_more : (fs : List LineForm) (s : Standing) (m : Mark) (t : Standing) → InBody fs s → Suits s.tree m → t.settings ≡ s.settings → t.tree ≡ grown s.tree m
     → InBody (fs ++ Body m ∷ []) t
 body_more fs s m t k u e g = record {
   items = k.items;
@@ -318,7 +316,7 @@ suits_open (Building gs fs ns) mark.End h a = tt
 suits_open (Building gs fs ns) (mark.Element l) h a = tt
 
 -- where a rung ends, the place is between rungs, and else in one
-ends_at : (p : Place) (t : Tree) (fs : List Form) (s : Standing) → p.site ≡ site.Inside → IsBuilding t → depth_at t ≡ p.depth → s.tree ≡ grown t mark.End
+ends_at : (p : Place) (t : Tree) (fs : List LineForm) (s : Standing) → p.site ≡ site.Inside → IsBuilding t → depth_at t ≡ p.depth → s.tree ≡ grown t mark.End
     → InBody fs s → KnowsAt (behind_mark p mark.End).site fs s
 ends_at p (Closed gs) fs s e h d g k = absurd h
 ends_at p (Building gs [] ns) fs s e h d g k = by (eqb p.depth 0) (zero p.depth (sym d))
@@ -375,7 +373,7 @@ abbrev with_pins : Settings → List pin.PinLine → Settings
 with_pins s ls = record s { pins = ls }
 
 -- What a line that has no fault says is spelled behind what was.
-knows_at : (x : Site) (s : Standing) (bytes : List ℕ) (size : ℕ) (fs : List Form) (form : Form) → s.place.site ≡ x → KnowsAt x fs s → Knows fs s
+knows_at : (x : Site) (s : Standing) (bytes : List ℕ) (size : ℕ) (fs : List LineForm) (form : LineForm) → s.place.site ≡ x → KnowsAt x fs s → Knows fs s
     → AllowedAt x form → Passes s.place bytes size (Is form) → KnowsAt (standing_behind size s form).place.site (fs ++ one form) (standing_behind size s form)
 knows_at site.First s bytes size fs Magic e k all a p = record { items = []; spelled = ap (λ x. x ++ Magic ∷ []) k.0; settings = k.1; tree = k.2 }
 knows_at site.First s bytes size fs Blank e k all a p = absurd a
@@ -491,7 +489,7 @@ knows_at site.Inside s bytes size fs (Header h) e k all a p = absurd a
 knows_at site.Inside s bytes size fs (Pins q) e k all a p = absurd a
 
 -- a line of a rung suits the tree
-suits_at : (x : Site) (fs : List Form) (s : Standing) (m : Mark) → KnowsAt x fs s → AllowedAt x (Body m) → Suits s.tree m
+suits_at : (x : Site) (fs : List LineForm) (s : Standing) (m : Mark) → KnowsAt x fs s → AllowedAt x (Body m) → Suits s.tree m
 suits_at site.First fs s m k a = absurd a
 suits_at site.Header fs s m k a = absurd a
 suits_at site.Pins fs s m k a = absurd a
@@ -517,7 +515,7 @@ pub record Kept (t : Standing) : Type 0 where
   pub target : t.settings.target ≡ t.place.target
   pub built : IsBuilt t.place.target
 
-same_place : (s : Standing) (size : ℕ) (form : Form) → Kept s → (standing_behind size s form).place.rungs ≡ s.place.rungs
+same_place : (s : Standing) (size : ℕ) (form : LineForm) → Kept s → (standing_behind size s form).place.rungs ≡ s.place.rungs
     → (standing_behind size s form).place.elements ≡ s.place.elements → (standing_behind size s form).place.openings ≡ s.place.openings
     → (standing_behind size s form).place.depth ≡ s.place.depth → with_form s.tree form ≡ s.tree → (settings_behind s.settings form).target ≡ s.settings.target
     → (standing_behind size s form).place.target ≡ s.place.target → Kept (standing_behind size s form)
@@ -544,10 +542,11 @@ mark_target p (mark.Open c) = refl
 mark_target p mark.End = end_target p (eqb p.depth 0)
 mark_target p (mark.Element l) = refl
 
-kept_of : (fs : List Form) (s : Standing) → Knows fs s → Kept s
+kept_of : (fs : List LineForm) (s : Standing) → Knows fs s → Kept s
 kept_of fs s k = record { counts = k.counts; target = k.target; built = k.built }
 
-kept_behind : (s : Standing) (number : ℕ) (bytes : List ℕ) (size : ℕ) (fs : List Form) (form : Form) → Knows fs s → said_in s.place.site number bytes ≡ Is form
+kept_behind : (s : Standing) (number : ℕ) (bytes : List ℕ) (size : ℕ) (fs : List LineForm) (form : LineForm) → Knows fs s →
+    said_in s.place.site number bytes ≡ Is form
     → AllowedAt s.place.site form → Passes s.place bytes size (Is form) → RoomFor s.place form → Kept (standing_behind size s form)
 kept_behind s number bytes size fs Blank k h a p r = same_place s size Blank (kept_of fs s k) refl refl refl refl refl refl refl
 kept_behind s number bytes size fs Magic k h a p r = same_place s size Magic (kept_of fs s k) refl refl refl refl refl refl refl
@@ -583,7 +582,7 @@ setting_within : (n : ℕ) → nat_le n most_setting ≡ true → n ≤ most_set
 setting_within n h = grind (arith, nat_tests)
 
 -- what a line says of the settings is in its range
-read_behind : (x : Site) (s : Settings) (number : ℕ) (bytes : List ℕ) (form : Form) → AreRead s → said_in x number bytes ≡ Is form
+read_behind : (x : Site) (s : Settings) (number : ℕ) (bytes : List ℕ) (form : LineForm) → AreRead s → said_in x number bytes ≡ Is form
     → AreRead (settings_behind s form)
 read_behind x s number bytes Blank k h = k
 read_behind x s number bytes Magic k h = k
@@ -644,7 +643,7 @@ mark_pins p (mark.Element l) = refl
 same_pins : (p q : Place) (s t : Settings) → q.pins ≡ p.pins → t.pins ≡ s.pins → CountsPins p s → CountsPins q t
 same_pins p q s t e g k = record { pins = ap length g ∙ k.pins ∙ sym e; few_pins = omega (arith, e, k.few_pins) }
 
-pins_behind : (s : Standing) (size : ℕ) (form : Form) → CountsPins s.place s.settings → RoomFor s.place form
+pins_behind : (s : Standing) (size : ℕ) (form : LineForm) → CountsPins s.place s.settings → RoomFor s.place form
     → CountsPins (standing_behind size s form).place (standing_behind size s form).settings
 pins_behind s size Blank k r = same_pins s.place (standing_behind size s Blank).place s.settings s.settings refl refl k
 pins_behind s size Magic k r = same_pins s.place (standing_behind size s Magic).place s.settings s.settings refl refl k
@@ -655,7 +654,7 @@ pins_behind s size (Pins (pins.Pin l)) k r = record { pins = omega (arith, lengt
 pins_behind s size (Pins pins.End) k r = same_pins s.place (standing_behind size s (Pins pins.End)).place s.settings s.settings refl refl k
 pins_behind s size (Body m) k r = same_pins s.place (standing_behind size s (Body m)).place s.settings s.settings (mark_pins s.place m) refl k
 
-pub knows_more : (number : ℕ) (bytes : List ℕ) (size : ℕ) (s t : Standing) (fs : List Form) → Knows fs s → (w : Went number bytes size s t)
+pub knows_more : (number : ℕ) (bytes : List ℕ) (size : ℕ) (s t : Standing) (fs : List LineForm) → Knows fs s → (w : Went number bytes size s t)
     → Knows (fs ++ one w.form) t
 knows_more number bytes size s t fs k w =
     let e = ap (fault_of s.place number bytes size) (sym w.said) ∙ w.faultless in
@@ -672,7 +671,7 @@ knows_more number bytes size s t fs k w =
       pins = pins_behind s size w.form k.pins r.1;
     })
 
-unblank : (form : Form) (more : List Form) → unblanked (Is form) (map Is more) ≡ map Is (one form ++ more)
+unblank : (form : LineForm) (more : List LineForm) → unblanked (Is form) (map Is more) ≡ map Is (one form ++ more)
 unblank Blank more = refl
 unblank Magic more = refl
 unblank (Header h) more = refl
@@ -680,17 +679,17 @@ unblank (Pins q) more = refl
 unblank (Body m) more = refl
 
 -- what lines said, and what is known behind them
-pub record Told (p : Place) (n : ℕ) (ls : List Line) (fs : List Form) (t : Standing) : Type 0 where
-  pub more : List Form
+pub record Told (p : Place) (n : ℕ) (ls : List Line) (fs : List LineForm) (t : Standing) : Type 0 where
+  pub more : List LineForm
   pub said : said_by p n ls ≡ map Is more
   pub knows : Knows (fs ++ more) t
 
-pub told : (n : ℕ) (ls : List Line) (s t : Standing) (fs : List Form) → Knows fs s → run n ls s ≡ Goes t → Told s.place n ls fs t
+pub told : (n : ℕ) (ls : List Line) (s t : Standing) (fs : List LineForm) → Knows fs s → run n ls s ≡ Goes t → Told s.place n ls fs t
 told n [] s t fs k h = let e : s ≡ t = cc in record { more = []; said = refl; knows = subst (λ x. Knows x t) (sym (append-nil fs)) (subst (Knows fs) e k) }
 told n (l ∷ ls) s t fs k h = by (taken n l.bytes (size_of l) s) refl h (λ u gs. told (n + 1) ls u t gs)
   where
     by : (o : Taken) → taken n l.bytes (size_of l) s ≡ o → then (run (n + 1) ls) o ≡ Goes t
-        → ((u : Standing) (gs : List Form) → Knows gs u → run (n + 1) ls u ≡ Goes t → Told u.place (n + 1) ls gs t) → Told s.place n (l ∷ ls) fs t
+        → ((u : Standing) (gs : List LineForm) → Knows gs u → run (n + 1) ls u ≡ Goes t → Told u.place (n + 1) ls gs t) → Told s.place n (l ∷ ls) fs t
     by (Stops f) e h rec = absurd cc
     by (Goes u) e h rec =
         let w = goes n l.bytes (size_of l) s u e in

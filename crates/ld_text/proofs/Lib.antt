@@ -1,3 +1,5 @@
+pub mod FormsLemmas
+pub mod StandLemmas
 pub mod TakenLemmas
 pub mod FedLemmas
 pub mod TreeLemmas

@@ -10,21 +10,20 @@ use Rattle.ld_line.specs.declared.pins.PinsLine.TheVariants as pins
 use Rattle.ld_line.specs.declared.rungs.Circuit.{Circuit}
 use Rattle.ld_line.specs.declared.rungs.Circuit.TheVariants as circuit
 use Rattle.ld_line.specs.declared.said.Said.TheVariants.{Is}
-use Rattle.ld_text.specs.declared.draft.Frame.{Frame}
-use Rattle.ld_text.specs.declared.draft.Settings.{Settings}
-use Rattle.ld_text.specs.declared.form.Form.{Form}
-use Rattle.ld_text.specs.declared.form.Form.TheVariants.{Header, Pins, Body}
-use Rattle.ld_text.specs.declared.form.Mark.{Mark}
-use Rattle.ld_text.specs.declared.form.Mark.TheVariants as mark
+use Rattle.ld_text.specs.declared.heard.LineForm.{LineForm}
+use Rattle.ld_text.specs.declared.heard.LineForm.TheVariants.{Header, Pins, Body}
+use Rattle.ld_text.specs.declared.heard.Mark.{Mark}
+use Rattle.ld_text.specs.declared.heard.Mark.TheVariants as mark
 use Rattle.ld_text.specs.Lines.{Line}
-use Rattle.ld_text.specs.Spelling.{Item, Chip, Cycle, Crystal, Baud, Compiled, PinSection, pin_forms, spelled, spelled_node, spelled_nodes, spelled_item, spelled_items, spelled_project, defaults, with_item, with_items}
+use Rattle.ld_text.specs.Spelling.{Settings, Item, Chip, Cycle, Crystal, Baud, Compiled, PinSection, pin_forms, spelled, spelled_node, spelled_nodes, spelled_item, spelled_items, spelled_project, defaults, with_item, with_items}
 use Rattle.ld_text.specs.Text.{IsProject, project_of}
-use Rattle.ld_text.specs.Reading.{Tree, Closed, Building, closed, grown, with_form, settings_behind}
+use Rattle.ld_text.specs.Tree.{Frame, Tree, Closed, Building, closed, grown, with_form}
+use Rattle.ld_text.specs.Reading.{settings_behind}
 use Rattle.ld_text.proofs.TreeLemmas.{spelled-Leaf, spelled-closed}
 
 -- the settings and the tree behind forms
 
-abbrev settings_by : Settings → List Form → Settings
+abbrev settings_by : Settings → List LineForm → Settings
 settings_by s [] = s
 settings_by s (f ∷ fs) = settings_by (settings_behind s f) fs
 
@@ -32,15 +31,15 @@ abbrev grown_by : Tree → List Mark → Tree
 grown_by t [] = t
 grown_by t (m ∷ ms) = grown_by (grown t m) ms
 
-abbrev tree_by : Tree → List Form → Tree
+abbrev tree_by : Tree → List LineForm → Tree
 tree_by t [] = t
 tree_by t (f ∷ fs) = tree_by (with_form t f) fs
 
-settings_by-append : (s : Settings) (xs ys : List Form) → settings_by s (xs ++ ys) ≡ settings_by (settings_by s xs) ys
+settings_by-append : (s : Settings) (xs ys : List LineForm) → settings_by s (xs ++ ys) ≡ settings_by (settings_by s xs) ys
 settings_by-append s [] ys = refl
 settings_by-append s (x ∷ xs) ys = settings_by-append (settings_behind s x) xs ys
 
-tree_by-append : (t : Tree) (xs ys : List Form) → tree_by t (xs ++ ys) ≡ tree_by (tree_by t xs) ys
+tree_by-append : (t : Tree) (xs ys : List LineForm) → tree_by t (xs ++ ys) ≡ tree_by (tree_by t xs) ys
 tree_by-append t [] ys = refl
 tree_by-append t (x ∷ xs) ys = tree_by-append (with_form t x) xs ys
 
@@ -144,7 +143,7 @@ tree_project is gs =
     ∙ tree_body (spelled gs) (Closed [])
     ∙ rungs_grown gs []
 
-same_said : (xs ys : List Form) → map Is xs ≡ map Is ys → xs ≡ ys
+same_said : (xs ys : List LineForm) → map Is xs ≡ map Is ys → xs ≡ ys
 same_said [] [] h = refl
 same_said [] (y ∷ ys) h = absurd cc
 same_said (x ∷ xs) [] h = absurd cc

@@ -1,92 +1,85 @@
 -- What a reader answers that stands where a text takes it.
-use Rattle.std.proofs.Common.{◌≡◌, ℕ, List, ◌++◌, Some, None, Result, Ok, Err, IfOk, IfErr, ◌⊎◌, inl, inr, refl, sym, ap, subst, ◌∙◌}
+use Rattle.std.proofs.Common.{◌≡◌, ℕ, List, ◌++◌, Option, Some, None, Result, Ok, Err, refl, sym, ap, subst, ◌∙◌}
 use Rattle.ladder_tree.specs.declared.fault.ProjectFault.{ProjectFault}
 use Rattle.ladder_tree.specs.declared.project.Project.{Project}
 use Rattle.ld_text.specs.declared.fault.TextError.{TextError}
 use Rattle.ld_text.specs.declared.fault.TextError.TheVariants as error
-use Rattle.ld_text.specs.declared.reader.State.{State}
-use Rattle.ld_text.specs.declared.reader.State.TheVariants as state
+use Rattle.ld_text.specs.declared.reader.Reader.{Reader}
 use Rattle.ld_text.specs.Text.{IsReadAs, IsCause, text_fault, early_fault}
 use Rattle.ld_text.specs.Within.{IsWithin}
-use Rattle.ld_text.specs.Reading.{Mind, Refuses, Accepts, fed, fresh, finished, mind_of, mind_at, failure_of, IsRejected}
-use Rattle.ld_text.proofs.FedLemmas.{fed_append}
+use Rattle.ld_text.specs.Reading.{Standing, Mind, Reads, Refuses, Accepts, fed, fresh, finished, mind_of, mind_behind, IsRefused, IsRejected, StandsRefused}
+use Rattle.ld_text.proofs.FedLemmas.{fed_append, fed_refused}
 use Rattle.ld_text.proofs.VerdictLemmas.{IsVerdict, verdict, IsEarly, early, early_is_final}
 
--- where a piece takes the state of a reader
-abbrev pub Follows : State → List ℕ → State → Type 0
-Follows old piece new = (m : Mind) → mind_at old ≡ Some m → (mind_at new ≡ Some (fed m piece)) ⊎ (new ≡ state.Exhausted)
+-- where no error was answered a reader is in the line in which the text ends
+in_line : (o : Option TextError) (m : Mind) (text : List ℕ) → o ≡ None → mind_behind o m ≡ Some (fed fresh text) → m ≡ fed fresh text
+in_line None m text e h = cc
+in_line (Some x) m text e h = absurd cc
 
-pub goes_on : (old new : State) (text piece : List ℕ) → mind_at old ≡ Some (fed fresh text) → Follows old piece new → failure_of new ≡ None
-    → mind_at new ≡ Some (fed fresh (text ++ piece))
-goes_on old new text piece h f g = by (f (fed fresh text) h)
-  where
-    by : (mind_at new ≡ Some (fed (fed fresh text) piece)) ⊎ (new ≡ state.Exhausted) → mind_at new ≡ Some (fed fresh (text ++ piece))
-    by (inl e) = e ∙ ap Some (sym (fed_append fresh text piece))
-    by (inr e) = let no = ap failure_of (sym e) ∙ g in absurd cc
+-- where an error was answered the text is refused for good
+refused_for_good : (f : ProjectFault) (m : Mind) (text piece : List ℕ) → mind_behind (Some (error.Refused f)) m ≡ Some (fed fresh text)
+    → Refuses f ≡ fed fresh (text ++ piece)
+refused_for_good f m text piece h =
+    let same : Refuses f ≡ fed fresh text = cc in sym (fed_append fresh text piece ∙ ap (λ x. fed x piece) (sym same) ∙ fed_refused f piece)
 
-reads_early : (new : State) (text : List ℕ) → mind_at new ≡ Some (fed fresh text) → failure_of new ≡ None → early_fault text ≡ None
-reads_early (state.Reads c) text h g = let m : mind_of c ≡ fed fresh text = cc in subst (IsEarly text) (sym m) (early text)
-reads_early (state.Refused f) text h g = absurd cc
-reads_early state.Exhausted text h g = absurd cc
+pub goes_on : (o p : Option TextError) (m n : Mind) (text piece : List ℕ) → o ≡ None → p ≡ o → mind_behind o m ≡ Some (fed fresh text) → n ≡ fed m piece
+    → mind_behind p n ≡ Some (fed fresh (text ++ piece))
+goes_on o p m n text piece e same h g =
+    ap (λ x. mind_behind x n) (same ∙ e) ∙ ap Some (g ∙ ap (λ x. fed x piece) (in_line o m text e h) ∙ sym (fed_append fresh text piece))
 
-pub goes_early : (old new : State) (text piece : List ℕ) → mind_at old ≡ Some (fed fresh text) → Follows old piece new → failure_of new ≡ None
-    → early_fault (text ++ piece) ≡ None
-goes_early old new text piece h f g = reads_early new (text ++ piece) (goes_on old new text piece h f g) g
+pub goes_early : (o : Option TextError) (m : Mind) (k : ℕ) (l : List ℕ) (s : Standing) (text piece : List ℕ) → o ≡ None
+    → mind_behind o m ≡ Some (fed fresh text) → Reads k l s ≡ fed m piece → early_fault (text ++ piece) ≡ None
+goes_early o m k l s text piece e h g =
+    subst (IsEarly (text ++ piece)) (sym (g ∙ ap (λ x. fed x piece) (in_line o m text e h) ∙ sym (fed_append fresh text piece))) (early (text ++ piece))
 
-refuses_early : (f : ProjectFault) (text : List ℕ) → Some (Refuses f) ≡ Some (fed fresh text) → early_fault text ≡ Some f
-refuses_early f text h = let m : Refuses f ≡ fed fresh text = cc in subst (IsEarly text) (sym m) (early text)
+pub fails_early : (o : Option TextError) (m : Mind) (text piece : List ℕ) (e : TextError) → o ≡ None → mind_behind o m ≡ Some (fed fresh text)
+    → IsRefused (fed m piece) e → IsCause (early_fault (text ++ piece)) e
+fails_early o m text piece (error.Memory a) n h g = tt
+fails_early o m text piece (error.Refused f) n h g =
+    subst (IsEarly (text ++ piece)) (fed_append fresh text piece ∙ ap (λ x. fed x piece) (sym (in_line o m text n h)) ∙ g) (early (text ++ piece))
 
-pub fails_early : (old new : State) (text piece : List ℕ) (e : TextError) → mind_at old ≡ Some (fed fresh text) → Follows old piece new
-    → failure_of new ≡ Some e → IsCause (early_fault (text ++ piece)) e
-fails_early old new text piece (error.Memory a) h f g = tt
-fails_early old (state.Reads c) text piece (error.Refused x) h f g = absurd cc
-fails_early old (state.Refused y) text piece (error.Refused x) h f g =
-    let same : error.Refused y ≡ error.Refused x = cc in
-    let inner : y ≡ x = cc in
-    by (f (fed fresh text) h) ∙ ap Some inner
-  where
-    by : (Some (Refuses y) ≡ Some (fed (fed fresh text) piece)) ⊎ (state.Refused y ≡ state.Exhausted) → early_fault (text ++ piece) ≡ Some y
-    by (inl e) = refuses_early y (text ++ piece) (e ∙ ap Some (sym (fed_append fresh text piece)))
-    by (inr e) = absurd cc
-fails_early old state.Exhausted text piece (error.Refused x) h f g = absurd cc
+pub stays : (r : Reader) (o : Option TextError) (m : Mind) (text piece : List ℕ) (e : TextError) → o ≡ None → mind_behind o m ≡ Some (fed fresh text)
+    → IsRefused (fed m piece) e → r.first ≡ Some e → StandsRefused r (text ++ piece) e
+stays r o m text piece (error.Memory a) n h g i = i
+stays r o m text piece (error.Refused f) n h g i =
+    ap (λ x. mind_behind x (mind_of r)) i ∙ ap Some (sym (fed_append fresh text piece ∙ ap (λ x. fed x piece) (sym (in_line o m text n h)) ∙ g))
 
--- a text that is refused is refused for good, and a reader stands where it takes it
-abbrev pub IsKept : State → List ℕ → TextError → Type 0
-IsKept new text (error.Refused f) = mind_at new ≡ Some (fed fresh text)
-IsKept new text (error.Memory a) = new ≡ state.Exhausted
+pub failed_early : (o : Option TextError) (m : Mind) (text piece : List ℕ) (e : TextError) → o ≡ Some e → mind_behind o m ≡ Some (fed fresh text)
+    → IsCause (early_fault (text ++ piece)) e
+failed_early o m text piece (error.Memory a) i h = tt
+failed_early o m text piece (error.Refused f) i h =
+    subst (IsEarly (text ++ piece)) (sym (refused_for_good f m text piece (ap (λ x. mind_behind x m) (sym i) ∙ h))) (early (text ++ piece))
 
-pub stays : (old new : State) (text piece : List ℕ) (e : TextError) → mind_at old ≡ Some (fed fresh text) → Follows old piece new → failure_of new ≡ Some e
-    → IsKept new (text ++ piece) e
-stays old (state.Reads c) text piece e h f g = absurd cc
-stays old (state.Refused y) text piece (error.Memory a) h f g = absurd cc
-stays old (state.Refused y) text piece (error.Refused x) h f g = by (f (fed fresh text) h)
-  where
-    by : (Some (Refuses y) ≡ Some (fed (fed fresh text) piece)) ⊎ (state.Refused y ≡ state.Exhausted) → Some (Refuses y) ≡ Some (fed fresh (text ++ piece))
-    by (inl k) = k ∙ ap Some (sym (fed_append fresh text piece))
-    by (inr k) = absurd cc
-stays old state.Exhausted text piece (error.Refused x) h f g = absurd cc
-stays old state.Exhausted text piece (error.Memory a) h f g = refl
+pub failed_stays : (r : Reader) (text piece : List ℕ) (e : TextError) → r.first ≡ Some e → mind_behind r.first (mind_of r) ≡ Some (fed fresh text)
+    → StandsRefused r (text ++ piece) e
+failed_stays r text piece (error.Memory a) i h = i
+failed_stays r text piece (error.Refused f) i h =
+    ap (λ x. mind_behind x (mind_of r)) i ∙ ap Some (refused_for_good f (mind_of r) text piece (ap (λ x. mind_behind x (mind_of r)) (sym i) ∙ h))
 
 -- the answer at the end
 
-pub ends_read : (result : Result Project TextError) (m : Mind) (text : List ℕ) → Some m ≡ Some (fed fresh text) → IfOk result (λ p. finished m ≡ Accepts p)
-    → IfOk result (IsReadAs text)
-ends_read (Ok p) m text h a = let e : m ≡ fed fresh text = cc in (subst (IsVerdict text) (ap finished (sym e) ∙ a) (verdict text)).0
-ends_read (Err x) m text h a = tt
+pub ends_read : (m : Mind) (text : List ℕ) (p : Project) → m ≡ fed fresh text → finished m ≡ Accepts p → IsReadAs text p × IsWithin p
+ends_read m text p e a = subst (IsVerdict text) (ap finished (sym e) ∙ a) (verdict text)
 
-pub ends_within : (result : Result Project TextError) (m : Mind) (text : List ℕ) → Some m ≡ Some (fed fresh text) → IfOk result (λ p. finished m ≡ Accepts p)
-    → IfOk result IsWithin
-ends_within (Ok p) m text h a = let e : m ≡ fed fresh text = cc in (subst (IsVerdict text) (ap finished (sym e) ∙ a) (verdict text)).1
-ends_within (Err x) m text h a = tt
+-- a reader that answered no error yet, since it answers none
+pub ends_well : {T : Type 0} (o : Option TextError) (m : Mind) (text : List ℕ) (answer : Result T TextError) (t : T) (p : Project) → answer ≡ Ok t
+    → mind_behind o m ≡ Some (fed fresh text) → ((e : TextError) → o ≡ Some e → answer ≡ Err e) → (o ≡ None → finished m ≡ Accepts p)
+    → IsReadAs text p × IsWithin p
+ends_well None m text answer t p i h failed accepts = ends_read m text p (in_line None m text refl h) (accepts refl)
+ends_well (Some e) m text answer t p i h failed accepts = let no = sym i ∙ failed e refl in absurd cc
 
-pub ends_refused : (result : Result Project TextError) (m : Mind) (text : List ℕ) → Some m ≡ Some (fed fresh text) → IfErr result (IsRejected (finished m))
-    → IfErr result (IsCause (text_fault text))
-ends_refused (Ok p) m text h r = tt
-ends_refused (Err (error.Memory a)) m text h r = tt
-ends_refused (Err (error.Refused f)) m text h r = let e : m ≡ fed fresh text = cc in subst (IsVerdict text) (ap finished (sym e) ∙ r) (verdict text)
-
-pub was_refused : (f : ProjectFault) (text : List ℕ) → Some (Refuses f) ≡ Some (fed fresh text) → text_fault text ≡ Some f
-was_refused f text h = early_is_final text f (refuses_early f text h)
+pub ends_badly : {T : Type 0} (o : Option TextError) (m : Mind) (text : List ℕ) (answer : Result T TextError) (e : TextError) → answer ≡ Err e
+    → mind_behind o m ≡ Some (fed fresh text) → ((e : TextError) → o ≡ Some e → answer ≡ Err e) → (o ≡ None → IsRejected (finished m) e)
+    → IsCause (text_fault text) e
+ends_badly o m text answer (error.Memory a) i h failed rejects = tt
+ends_badly None m text answer (error.Refused f) i h failed rejects =
+    subst (IsVerdict text) (ap finished (sym (in_line None m text refl h)) ∙ rejects refl) (verdict text)
+ends_badly (Some (error.Memory a)) m text answer (error.Refused f) i h failed rejects = absurd cc
+ends_badly (Some (error.Refused g)) m text answer (error.Refused f) i h failed rejects =
+    let both = sym i ∙ failed (error.Refused g) refl in
+    let same : f ≡ g = cc in
+    let refused : Refuses g ≡ fed fresh text = cc in
+    early_is_final text f (subst (IsEarly text) (sym refused) (early text) ∙ ap Some (sym same))
 
 pub early_cause : (text : List ℕ) (e : TextError) → IsCause (early_fault text) e → IsCause (text_fault text) e
 early_cause text (error.Memory a) h = tt

@@ -18,15 +18,15 @@ use Rattle.ld_line.specs.declared.rungs.Circuit.TheVariants as circuit
 use Rattle.ld_line.specs.declared.rungs.RungLine.{RungLine}
 use Rattle.ld_line.specs.declared.rungs.RungLine.TheVariants as rung
 use Rattle.ld_line.specs.declared.word.Word.{Word}
-use Rattle.ld_text.specs.declared.form.Mark.TheVariants as mark
-use Rattle.ld_text.specs.declared.form.Form.{Form}
-use Rattle.ld_text.specs.declared.form.Form.TheVariants.{Blank, Magic, Header, Pins, Body}
+use Rattle.ld_text.specs.declared.heard.Mark.TheVariants as mark
+use Rattle.ld_text.specs.declared.heard.LineForm.{LineForm}
+use Rattle.ld_text.specs.declared.heard.LineForm.TheVariants.{Blank, Magic, Header, Pins, Body}
 use Rattle.ld_text.specs.declared.place.Site.{Site}
 use Rattle.ld_text.specs.declared.place.Site.TheVariants as site
 use Rattle.ld_text.specs.Place.{unless_blank, between, inside, said_in}
 
 -- the forms that lines can say at a part of a text
-abbrev pub AllowedAt : Site → Form → Type 0
+abbrev pub AllowedAt : Site → LineForm → Type 0
 AllowedAt site.First Magic = Unit {0}
 AllowedAt site.First Blank = ⊥
 AllowedAt site.First (Header h) = ⊥
@@ -59,7 +59,7 @@ AllowedAt site.Inside Magic = ⊥
 AllowedAt site.Inside (Header h) = ⊥
 AllowedAt site.Inside (Pins q) = ⊥
 
-abbrev AllowedAs : Site → Said Form → Type 0
+abbrev AllowedAs : Site → Said LineForm → Type 0
 AllowedAs x (Is form) = AllowedAt x form
 AllowedAs x Bad = Unit {0}
 AllowedAs x Range = Unit {0}
@@ -105,7 +105,7 @@ said_allowed site.Pins number bytes = pins_allowed (tokens bytes) (pin_of_line (
 said_allowed site.Between number bytes = between_allowed (tokens bytes) (rung_line_of bytes)
 said_allowed site.Inside number bytes = inside_allowed number (tokens bytes) (rung_line_of bytes)
 
-pub allowed : (x : Site) (number : ℕ) (bytes : List ℕ) (form : Form) → said_in x number bytes ≡ Is form → AllowedAt x form
+pub allowed : (x : Site) (number : ℕ) (bytes : List ℕ) (form : LineForm) → said_in x number bytes ≡ Is form → AllowedAt x form
 allowed x number bytes form h = subst (AllowedAs x) h (said_allowed x number bytes)
 
 -- an element that is said has a word

@@ -8,11 +8,10 @@ use Rattle.ld_line.specs.Tokens.{tokens}
 use Rattle.ld_line.specs.declared.said.Said.{Said}
 use Rattle.ld_line.specs.declared.said.Said.TheVariants.{Bad, Range, Is}
 use Rattle.ld_line.specs.declared.pins.PinsLine.TheVariants as pins
-use Rattle.ld_text.specs.declared.form.Mark.TheVariants as mark
-use Rattle.ld_text.specs.declared.form.Form.{Form}
-use Rattle.ld_text.specs.declared.form.Form.TheVariants.{Blank, Magic, Header, Pins, Body}
-use Rattle.ld_text.specs.declared.place.Place.{Place}
-use Rattle.ld_text.specs.Place.{said_in}
+use Rattle.ld_text.specs.declared.heard.Mark.TheVariants as mark
+use Rattle.ld_text.specs.declared.heard.LineForm.{LineForm}
+use Rattle.ld_text.specs.declared.heard.LineForm.TheVariants.{Blank, Magic, Header, Pins, Body}
+use Rattle.ld_text.specs.Place.{Place, said_in}
 use Rattle.ld_text.specs.Faults.{fault_of, is_first, is_bad, is_out_of_range, begins_unbuilt, names_unbuilt, is_chipless, is_too_deep, is_one_too_many}
 use Rattle.ld_text.specs.Reading.{Standing, Goes, Stops, RoomFor, HasRoom, taken, taken_as, standing_behind}
 
@@ -21,7 +20,7 @@ none_of true f rest h = absurd cc
 none_of false f rest h = (refl, h)
 
 -- no row of the table holds
-pub record Passes (p : Place) (bytes : List ℕ) (size : ℕ) (said : Said Form) : Type 0 where
+pub record Passes (p : Place) (bytes : List ℕ) (size : ℕ) (said : Said LineForm) : Type 0 where
   pub short : ltb LINE_BYTES (length bytes) ≡ false
   pub known : (is_first p.site && is_bad said) ≡ false
   pub built : (not (is_first p.site) && (begins_unbuilt p.target (tokens bytes) || names_unbuilt said)) ≡ false
@@ -31,7 +30,7 @@ pub record Passes (p : Place) (bytes : List ℕ) (size : ℕ) (said : Said Form)
   pub shallow : is_too_deep p said ≡ false
   pub few : (is_one_too_many p said || ltb FILE_BYTES (p.bytes + size)) ≡ false
 
-pub passes : (p : Place) (number : ℕ) (bytes : List ℕ) (size : ℕ) (said : Said Form) → fault_of p number bytes size said ≡ None → Passes p bytes size said
+pub passes : (p : Place) (number : ℕ) (bytes : List ℕ) (size : ℕ) (said : Said LineForm) → fault_of p number bytes size said ≡ None → Passes p bytes size said
 passes p number bytes size said h =
     let a = none_of _ _ _ h in
     let b = none_of _ _ _ a.1 in
@@ -53,7 +52,7 @@ not_over n k h = grind (arith, nat_tests)
 below : (n k : ℕ) → leb n k ≡ false → k < n
 below n k h = grind (arith, nat_tests)
 
-room_for : (p : Place) (form : Form) → is_too_deep p (Is form) ≡ false → is_one_too_many p (Is form) ≡ false → RoomFor p form
+room_for : (p : Place) (form : LineForm) → is_too_deep p (Is form) ≡ false → is_one_too_many p (Is form) ≡ false → RoomFor p form
 room_for p Blank d f = tt
 room_for p Magic d f = tt
 room_for p (Header h) d f = tt
@@ -65,7 +64,7 @@ room_for p (Body (mark.Element l)) d f = below ELEMENTS p.elements f
 room_for p (Body mark.End) d f = tt
 
 -- where a line has no fault there is room for it
-pub room : (p : Place) (number : ℕ) (bytes : List ℕ) (size : ℕ) (form : Form) → fault_of p number bytes size (Is form) ≡ None → HasRoom p size form
+pub room : (p : Place) (number : ℕ) (bytes : List ℕ) (size : ℕ) (form : LineForm) → fault_of p number bytes size (Is form) ≡ None → HasRoom p size form
 room p number bytes size form h =
     let all = passes p number bytes size (Is form) h in
     let few = or_false (is_one_too_many p (Is form)) (ltb FILE_BYTES (p.bytes + size)) all.few in
@@ -73,7 +72,7 @@ room p number bytes size form h =
 
 -- the line says something, has no fault, and takes the reader there
 pub record Went (number : ℕ) (bytes : List ℕ) (size : ℕ) (s t : Standing) : Type 0 where
-  pub form : Form
+  pub form : LineForm
   pub said : said_in s.place.site number bytes ≡ Is form
   pub faultless : fault_of s.place number bytes size (said_in s.place.site number bytes) ≡ None
   pub is : t ≡ standing_behind size s form
@@ -81,7 +80,7 @@ pub record Went (number : ℕ) (bytes : List ℕ) (size : ℕ) (s t : Standing) 
 pub goes : (number : ℕ) (bytes : List ℕ) (size : ℕ) (s t : Standing) → taken number bytes size s ≡ Goes t → Went number bytes size s t
 goes number bytes size s t h = by (fault_of s.place number bytes size (said_in s.place.site number bytes)) (said_in s.place.site number bytes) refl refl h
   where
-    by : (o : Option ProjectFault) (x : Said Form) → fault_of s.place number bytes size (said_in s.place.site number bytes) ≡ o
+    by : (o : Option ProjectFault) (x : Said LineForm) → fault_of s.place number bytes size (said_in s.place.site number bytes) ≡ o
         → said_in s.place.site number bytes ≡ x → taken_as o x number size s ≡ Goes t → Went number bytes size s t
     by (Some f) x e g h = absurd cc
     by None Bad e g h = absurd cc
@@ -93,7 +92,7 @@ pub stops : (number : ℕ) (bytes : List ℕ) (size : ℕ) (s : Standing) (f : P
     → fault_of s.place number bytes size (said_in s.place.site number bytes) ≡ Some f
 stops number bytes size s f h = by (fault_of s.place number bytes size (said_in s.place.site number bytes)) (said_in s.place.site number bytes) refl refl h
   where
-    by : (o : Option ProjectFault) (x : Said Form) → fault_of s.place number bytes size (said_in s.place.site number bytes) ≡ o
+    by : (o : Option ProjectFault) (x : Said LineForm) → fault_of s.place number bytes size (said_in s.place.site number bytes) ≡ o
         → said_in s.place.site number bytes ≡ x → taken_as o x number size s ≡ Stops f
         → fault_of s.place number bytes size (said_in s.place.site number bytes) ≡ Some f
     by (Some g) x e i h = let same : g ≡ f = cc in e ∙ ap Some same

@@ -9,10 +9,9 @@ use Rattle.ladder_tree.specs.Induct.{Each, node_ind}
 use Rattle.ladder_tree.specs.Leaves.{leaves, leaves_in, all_leaves, depth_of, depth_in, depth_of_all}
 use Rattle.ld_line.specs.declared.rungs.Circuit.{Circuit}
 use Rattle.ld_line.specs.declared.rungs.Circuit.TheVariants as circuit
-use Rattle.ld_text.specs.declared.form.Mark.{Mark}
-use Rattle.ld_text.specs.declared.form.Mark.TheVariants as mark
-use Rattle.ld_text.specs.declared.draft.Frame.{Frame}
-use Rattle.ld_text.specs.Reading.{Tree, Closed, Building, closed, ended, grown}
+use Rattle.ld_text.specs.declared.heard.Mark.{Mark}
+use Rattle.ld_text.specs.declared.heard.Mark.TheVariants as mark
+use Rattle.ld_text.specs.Tree.{Frame, Tree, Closed, Building, closed, ended, grown}
 use Rattle.ld_text.specs.Spelling.{spelled, spelled_node, spelled_nodes}
 use Rattle.ladder_tree.specs.Forms.{forms_of, forms_in, forms_of_all}
 use Rattle.ld_text.proofs.TreeLemmas.{spelled-Leaf, spelled-closed, depth-Leaf, depth-closed, leaves-Leaf, leaves-closed, forms-Leaf, forms-closed}

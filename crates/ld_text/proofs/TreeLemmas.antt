@@ -8,9 +8,9 @@ use Rattle.ladder_tree.specs.declared.project.Node.TheVariants.{rolls-Leaf, roll
 use Rattle.ladder_tree.specs.Leaves.{leaves, leaves_in, leaves_step, depth_of, depth_in, depth_step}
 use Rattle.ld_line.specs.declared.rungs.Circuit.{Circuit}
 use Rattle.ld_line.specs.declared.rungs.Circuit.TheVariants as circuit
-use Rattle.ld_text.specs.declared.form.Mark.{Mark}
-use Rattle.ld_text.specs.declared.form.Mark.TheVariants as line
-use Rattle.ld_text.specs.Reading.{closed}
+use Rattle.ld_text.specs.declared.heard.Mark.{Mark}
+use Rattle.ld_text.specs.declared.heard.Mark.TheVariants as line
+use Rattle.ld_text.specs.Tree.{closed}
 use Rattle.ladder_tree.specs.Forms.{forms_of, forms_in, forms_step}
 use Rattle.ld_text.specs.Spelling.{spelled_node, spelled_nodes, spelling_step}
 

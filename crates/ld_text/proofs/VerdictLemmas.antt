@@ -11,7 +11,7 @@ use Rattle.ladder_tree.specs.declared.project.Project.{Project}
 use Rattle.ladder_tree.specs.declared.project.Rung.{Rung}
 use Rattle.texts.specs.declared.limits.TheConstants.{LINE_BYTES, FILE_BYTES}
 use Rattle.ld_line.specs.declared.said.Said.TheVariants.{Is}
-use Rattle.ld_text.specs.declared.form.Form.TheVariants.{Magic, Header, Body}
+use Rattle.ld_text.specs.declared.heard.LineForm.TheVariants.{Magic, Header, Body}
 use Rattle.ld_text.specs.declared.place.Site.{Site}
 use Rattle.ld_text.specs.declared.place.Site.TheVariants as site
 use Rattle.ld_text.specs.Lines.{Line, size_of, open_line, ended_lines, behind_feeds, lines_of}
@@ -21,7 +21,8 @@ use Rattle.ld_text.specs.Spelling.{spelled_items}
 use Rattle.ld_line.specs.declared.header.HeaderLine.TheVariants as header
 use Rattle.ld_text.specs.Text.{IsReadAs, text_fault, early_fault, early_length, project_of, judged}
 use Rattle.ld_text.specs.Within.{IsWithin}
-use Rattle.ld_text.specs.Reading.{Tree, Closed, Building, Standing, first, Taken, Goes, Stops, taken, Mind, Reads, Refuses, next, fed, fresh, Verdict, Accepts, Rejects, project_at, ended_as, at_end, finished}
+use Rattle.ld_text.specs.Tree.{Tree, Closed, Building}
+use Rattle.ld_text.specs.Reading.{Standing, first, Taken, Goes, Stops, taken, Mind, Reads, Refuses, next, fed, fresh, Verdict, Accepts, Rejects, project_at, ended_as, at_end, finished}
 use Rattle.ld_text.proofs.FedLemmas.{fed_refused, fed_append}
 use Rattle.ld_text.proofs.TreeGrowth.{rungs_counted, so_far}
 use Rattle.ld_text.proofs.RunLemmas.{then, run, early_run, FedTo, fed_to, run_goes, run_stops}

@@ -13,14 +13,13 @@ use Rattle.ld_line.specs.declared.said.Said.TheVariants.{Bad, Range, Is}
 use Rattle.ld_line.specs.declared.word.Word.{Word}
 use Rattle.ld_line.specs.declared.header.HeaderLine.TheVariants as header
 use Rattle.ld_line.specs.declared.pins.PinsLine.TheVariants as pins
-use Rattle.ld_text.specs.declared.form.Mark.TheVariants as mark
-use Rattle.ld_text.specs.declared.form.Form.{Form}
-use Rattle.ld_text.specs.declared.form.Form.TheVariants.{Header, Pins, Body}
-use Rattle.ld_text.specs.declared.place.Place.{Place}
+use Rattle.ld_text.specs.declared.heard.Mark.TheVariants as mark
+use Rattle.ld_text.specs.declared.heard.LineForm.{LineForm}
+use Rattle.ld_text.specs.declared.heard.LineForm.TheVariants.{Header, Pins, Body}
 use Rattle.ld_text.specs.declared.place.Site.{Site}
 use Rattle.ld_text.specs.declared.place.Site.TheVariants as site
 use Rattle.ld_text.specs.Lines.{Line, size_of}
-use Rattle.ld_text.specs.Place.{said_at, behind}
+use Rattle.ld_text.specs.Place.{Place, said_at, behind}
 
 -- the line of a fault of a text; the faults without a line are none of a text
 abbrev pub line_of : ProjectFault → ℕ
@@ -42,12 +41,12 @@ is_first site.Pins = false
 is_first site.Between = false
 is_first site.Inside = false
 
-abbrev pub is_bad : Said Form → Bool
+abbrev pub is_bad : Said LineForm → Bool
 is_bad Bad = true
 is_bad Range = false
 is_bad (Is form) = false
 
-abbrev pub is_out_of_range : Said Form → Bool
+abbrev pub is_out_of_range : Said LineForm → Bool
 is_out_of_range Bad = false
 is_out_of_range Range = true
 is_out_of_range (Is form) = false
@@ -67,22 +66,22 @@ begins_unbuilt target [] = false
 begins_unbuilt target (token ∷ ts) = has_unbuilt_word target (word_of token)
 
 -- the line names a target that is not built
-abbrev pub names_unbuilt : Said Form → Bool
+abbrev pub names_unbuilt : Said LineForm → Bool
 names_unbuilt (Is (Header (header.Micro (Some t)))) = not (is_target_built t)
 names_unbuilt _ = false
 
 -- a MICRO line without a known chip, or a PROGRAM without a MICRO line above it
-abbrev pub is_chipless : Option Target → Said Form → Bool
+abbrev pub is_chipless : Option Target → Said LineForm → Bool
 is_chipless target (Is (Header (header.Micro None))) = true
 is_chipless None (Is (Header header.Program)) = true
 is_chipless _ _ = false
 
-abbrev pub is_too_deep : Place → Said Form → Bool
+abbrev pub is_too_deep : Place → Said LineForm → Bool
 is_too_deep p (Is (Body (mark.Open c))) = nat_le DEPTH p.depth
 is_too_deep p _ = false
 
 -- with the line there are more of its kind than there may be
-abbrev pub is_one_too_many : Place → Said Form → Bool
+abbrev pub is_one_too_many : Place → Said LineForm → Bool
 is_one_too_many p (Is (Body mark.Rung)) = nat_le RUNGS p.rungs
 is_one_too_many p (Is (Body (mark.Element l))) = nat_le ELEMENTS p.elements
 is_one_too_many p (Is (Body (mark.Open c))) = nat_le OPENINGS p.openings
@@ -104,7 +103,7 @@ first_row (r ∷ rs) = if r.holds then Some r.fault else first_row rs
 
 -- The table of the faults of a line, in the order in which they are looked for. The line has the number, takes so many
 -- bytes of the text, and says this.
-abbrev pub fault_of : Place → ℕ → List ℕ → ℕ → Said Form → Option ProjectFault
+abbrev pub fault_of : Place → ℕ → List ℕ → ℕ → Said LineForm → Option ProjectFault
 fault_of p number bytes size said = first_row (
     row (nat_lt LINE_BYTES (length bytes)) (fault.LineTooLong number)
     ∷ row (is_first p.site && is_bad said) (fault.NotProject number)

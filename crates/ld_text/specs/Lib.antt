@@ -6,4 +6,5 @@ pub mod Spelling
 pub mod Text
 pub mod Within
 -- What the code of this crate keeps.
+pub mod Tree
 pub mod Reading

@@ -1,5 +1,6 @@
 -- Where a line stands: what the lines in front of it opened, how many of each kind there were, and what a line says there.
-use Rattle.std.specs.Prelude.{ℕ, ◌+◌, ◌-◌, ◌==◌, List, [], ◌∷◌, None, Some, if◌then◌else◌}
+use Rattle.std.specs.Prelude.{ℕ, ◌+◌, ◌-◌, ◌==◌, List, [], ◌∷◌, Option, None, if◌then◌else◌}
+use Rattle.chip_tables.specs.declared.target.Target.{Target}
 use Rattle.ld_line.specs.Said.{said_map}
 use Rattle.ld_line.specs.Tokens.{tokens, is_magic}
 use Rattle.ld_line.specs.Header.{header_of}
@@ -13,22 +14,36 @@ use Rattle.ld_line.specs.declared.pins.PinsLine.{PinsLine}
 use Rattle.ld_line.specs.declared.pins.PinsLine.TheVariants as pins
 use Rattle.ld_line.specs.declared.rungs.RungLine.{RungLine}
 use Rattle.ld_line.specs.declared.rungs.RungLine.TheVariants as rung
-use Rattle.ld_text.specs.declared.form.Mark.{Mark}
-use Rattle.ld_text.specs.declared.form.Mark.TheVariants as mark
-use Rattle.ld_text.specs.declared.form.Form.{Form}
-use Rattle.ld_text.specs.declared.form.Form.TheVariants.{Blank, Magic, Header, Pins, Body}
-use Rattle.ld_text.specs.declared.place.Place.{Place}
+use Rattle.ld_text.specs.declared.heard.Mark.{Mark}
+use Rattle.ld_text.specs.declared.heard.Mark.TheVariants as mark
+use Rattle.ld_text.specs.declared.heard.LineForm.{LineForm}
+use Rattle.ld_text.specs.declared.heard.LineForm.TheVariants.{Blank, Magic, Header, Pins, Body}
 use Rattle.ld_text.specs.declared.place.Site.{Site}
 use Rattle.ld_text.specs.declared.place.Site.TheVariants as site
 use Rattle.ld_text.specs.Lines.{Line, size_of}
 
+-- where a line stands: what the lines in front of it opened, and how many of each kind there were
+pub record Place : Type 0 where
+  pub site : Site
+  -- how many SERIES and PARALLELs are open in the rung
+  pub depth : ℕ
+  -- what the last MICRO line named
+  pub target : Option Target
+  pub rungs : ℕ
+  pub elements : ℕ
+  -- how many SERIES and PARALLELs there were
+  pub openings : ℕ
+  -- how many pin lines there were
+  pub pins : ℕ
+  pub bytes : ℕ
+
 -- a line without tokens is blank, and any other says this
-abbrev pub unless_blank : List (List ℕ) → Said Form → Said Form
+abbrev pub unless_blank : List (List ℕ) → Said LineForm → Said LineForm
 unless_blank [] said = Is Blank
 unless_blank (t ∷ ts) said = said
 
 -- between two rungs only a rung may begin
-abbrev pub between : Said RungLine → Said Form
+abbrev pub between : Said RungLine → Said LineForm
 between (Is rung.Rung) = Is (Body mark.Rung)
 between (Is (rung.Open c)) = Bad
 between (Is rung.End) = Bad
@@ -37,7 +52,7 @@ between Bad = Bad
 between Range = Bad
 
 -- and in a rung all but that; an element has the number of its line
-abbrev pub inside : ℕ → Said RungLine → Said Form
+abbrev pub inside : ℕ → Said RungLine → Said LineForm
 inside number (Is rung.Rung) = Bad
 inside number (Is (rung.Open c)) = Is (Body (mark.Open c))
 inside number (Is rung.End) = Is (Body mark.End)
@@ -46,7 +61,7 @@ inside number Bad = Bad
 inside number Range = Range
 
 -- what the line of the number says at a part of the text
-abbrev pub said_in : Site → ℕ → List ℕ → Said Form
+abbrev pub said_in : Site → ℕ → List ℕ → Said LineForm
 said_in site.First number bytes = if is_magic bytes then Is Magic else Bad
 said_in site.Header number bytes = unless_blank (tokens bytes) (said_map Header (header_of bytes))
 said_in site.Pins number bytes = unless_blank (tokens bytes) (said_map Pins (pin_of_line (tokens bytes)))
@@ -58,8 +73,7 @@ abbrev pub start : Place
 start = record { site = site.First; depth = 0; target = None; rungs = 0; elements = 0; openings = 0; pins = 0; bytes = 0 }
 
 abbrev pub behind_header : Place → HeaderLine → Place
-behind_header p (header.Micro (Some t)) = record p { target = Some t }
-behind_header p (header.Micro None) = p
+behind_header p (header.Micro t) = record p { target = t }
 behind_header p (header.Cycle n) = p
 behind_header p (header.Crystal n) = p
 behind_header p (header.Baud n) = p
@@ -78,7 +92,7 @@ behind_mark p (mark.Open c) = record p { depth = p.depth + 1; openings = p.openi
 behind_mark p mark.End = if p.depth == 0 then record p { site = site.Between } else record p { depth = p.depth - 1 }
 behind_mark p (mark.Element l) = record p { elements = p.elements + 1 }
 
-abbrev pub behind_form : Place → Form → Place
+abbrev pub behind_form : Place → LineForm → Place
 behind_form p Blank = p
 behind_form p Magic = record p { site = site.Header }
 behind_form p (Header h) = behind_header p h
@@ -86,12 +100,12 @@ behind_form p (Pins q) = behind_pins p q
 behind_form p (Body m) = behind_mark p m
 
 -- the place behind a line of so many bytes
-abbrev pub behind_said : Place → ℕ → Said Form → Place
+abbrev pub behind_said : Place → ℕ → Said LineForm → Place
 behind_said p size (Is form) = record (behind_form p form) { bytes = p.bytes + size }
 behind_said p size Bad = record p { bytes = p.bytes + size }
 behind_said p size Range = record p { bytes = p.bytes + size }
 
-abbrev pub said_at : Place → ℕ → Line → Said Form
+abbrev pub said_at : Place → ℕ → Line → Said LineForm
 said_at p number l = said_in p.site number l.bytes
 
 abbrev pub behind : Place → ℕ → Line → Place

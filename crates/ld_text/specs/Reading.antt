@@ -1,72 +1,33 @@
 -- Reading a text byte by byte: where a reader stands, and where a byte takes it.
-use Rattle.std.specs.Prelude.{◌≡◌, ⊤, alloc_error, ℕ, ◌+◌, ◌<◌, ◌≤◌, ◌^◌, ◌-◌, ◌==◌, min, nat_lt, List, [], ◌∷◌, ◌++◌, length, reverse, Option, None, Some, Result, Ok, Err, if◌then◌else◌}
+use Rattle.std.specs.Prelude.{◌≡◌, ⊤, ℕ, ◌+◌, ◌<◌, ◌≤◌, ◌^◌, ◌-◌, ◌==◌, ◌&&◌, ◌||◌, not, Bool, true, false, min, nat_lt, List, [], ◌∷◌, ◌++◌, length, Option, None, Some, if◌then◌else◌}
 use Rattle.chip_tables.specs.declared.target.Target.{Target}
 use Rattle.ladder_tree.specs.declared.fault.ProjectFault.{ProjectFault}
-use Rattle.ladder_tree.specs.declared.fault.ProjectFault.TheVariants.{BadLine, NumberRange, Unclosed, LineTooLong}
-use Rattle.ladder_tree.specs.declared.project.Node.{Node, Leaf, Series, Parallel}
+use Rattle.ladder_tree.specs.declared.fault.ProjectFault.TheVariants.{BadLine, NumberRange, Unclosed, NotProject, NotBuilt, LineTooLong, UnknownChip, TooDeep, TooMany}
 use Rattle.ladder_tree.specs.declared.project.Project.{Project}
-use Rattle.ladder_tree.specs.declared.project.Rung.{Rung}
 use Rattle.texts.specs.declared.limits.TheConstants.{LINE_BYTES, FILE_BYTES}
 use Rattle.ladder_tree.specs.declared.limits.TheConstants.{DEPTH, RUNGS, ELEMENTS, OPENINGS, PIN_LINES}
+use Rattle.ld_line.specs.Tokens.{tokens}
 use Rattle.ld_line.specs.declared.said.Said.{Said}
 use Rattle.ld_line.specs.declared.said.Said.TheVariants.{Bad, Range, Is}
 use Rattle.ld_line.specs.declared.header.HeaderLine.TheVariants as header
 use Rattle.ld_line.specs.declared.pins.PinsLine.TheVariants as pins
-use Rattle.ld_line.specs.declared.rungs.Circuit.{Circuit}
-use Rattle.ld_line.specs.declared.rungs.Circuit.TheVariants as circuit
 use Rattle.ld_text.specs.declared.fault.TextError.{TextError}
 use Rattle.ld_text.specs.declared.fault.TextError.TheVariants as error
-use Rattle.ld_text.specs.declared.draft.Settings.{Settings}
-use Rattle.ld_text.specs.declared.draft.Frame.{Frame}
-use Rattle.ld_text.specs.declared.draft.OpenRung.{OpenRung}
-use Rattle.ld_text.specs.declared.draft.Rack.{Rack}
-use Rattle.ld_text.specs.declared.form.Mark.{Mark}
-use Rattle.ld_text.specs.declared.form.Mark.TheVariants as mark
-use Rattle.ld_text.specs.declared.form.Form.{Form}
-use Rattle.ld_text.specs.declared.form.Form.TheVariants.{Blank, Magic, Header, Pins, Body}
-use Rattle.ld_text.specs.declared.place.Place.{Place}
-use Rattle.ld_text.specs.declared.stand.Stand as rust
-use Rattle.ld_text.specs.declared.reader.Cursor.{Cursor}
-use Rattle.ld_text.specs.declared.reader.State.{State}
-use Rattle.ld_text.specs.declared.reader.State.TheVariants as state
+use Rattle.ld_text.specs.declared.heard.Mark.TheVariants as mark
+use Rattle.ld_text.specs.declared.heard.LineForm.{LineForm}
+use Rattle.ld_text.specs.declared.heard.LineForm.TheVariants.{Blank, Magic, Header, Pins, Body}
+use Rattle.ld_text.specs.declared.place.Place as held
+use Rattle.ld_text.specs.declared.place.Place.TheVariants as part
+use Rattle.ld_text.specs.declared.place.Site.{Site}
+use Rattle.ld_text.specs.declared.place.Site.TheVariants as site
 use Rattle.ld_text.specs.declared.reader.Reader.{Reader}
-use Rattle.ld_text.specs.Place.{start, said_in, behind_said}
-use Rattle.ld_text.specs.Faults.{fault_of, end_fault}
-use Rattle.ld_text.specs.Spelling.{defaults}
+use Rattle.ld_text.specs.Place.{Place, start, said_in, behind_form, behind_said}
+use Rattle.ld_text.specs.Faults.{is_first, is_bad, begins_unbuilt, names_unbuilt, is_chipless, is_too_deep, is_one_too_many, row, first_row, fault_of, end_fault}
+use Rattle.ld_text.specs.Spelling.{Settings, defaults}
 use Rattle.ld_text.specs.Text.{project_of}
+use Rattle.ld_text.specs.Tree.{Tree, Closed, Building, with_form, is_open, depth_of, tree_at}
 
--- rungs, and behind them perhaps an open one with its open forms, the innermost first, and the nodes of the innermost so far
-pub data Tree : Type 0 where
-  Closed : (gs : List Rung) → Tree
-  Building : (gs : List Rung) (fs : List Frame) (ns : List Node) → Tree
-
-abbrev pub closed : Circuit → List Node → Node
-closed circuit.Series ns = Series ns
-closed circuit.Parallel ns = Parallel ns
-
-abbrev pub ended : List Rung → List Frame → List Node → Tree
-ended gs [] ns = Closed (gs ++ record { nodes = ns } ∷ [])
-ended gs (f ∷ fs) ns = Building gs fs (f.nodes ++ closed f.circuit ns ∷ [])
-
--- a line that does not fit changes nothing
-abbrev pub grown : Tree → Mark → Tree
-grown (Closed gs) mark.Rung = Building gs [] []
-grown (Closed gs) (mark.Open c) = Closed gs
-grown (Closed gs) mark.End = Closed gs
-grown (Closed gs) (mark.Element l) = Closed gs
-grown (Building gs fs ns) mark.Rung = Building gs fs ns
-grown (Building gs fs ns) (mark.Open c) = Building gs (record { circuit = c; nodes = ns } ∷ fs) []
-grown (Building gs fs ns) mark.End = ended gs fs ns
-grown (Building gs fs ns) (mark.Element l) = Building gs fs (ns ++ Leaf l ∷ [])
-
-abbrev pub with_form : Tree → Form → Tree
-with_form t Blank = t
-with_form t Magic = t
-with_form t (Header h) = t
-with_form t (Pins q) = t
-with_form t (Body m) = grown t m
-
-abbrev pub settings_behind : Settings → Form → Settings
+abbrev pub settings_behind : Settings → LineForm → Settings
 settings_behind s Blank = s
 settings_behind s Magic = s
 settings_behind s (Header (header.Micro t)) = record s { target = t }
@@ -80,8 +41,29 @@ settings_behind s (Pins (pins.Pin l)) = record s { pins = s.pins ++ l ∷ [] }
 settings_behind s (Pins pins.End) = s
 settings_behind s (Body m) = s
 
+-- the rows of the table of faults in front of what a line says
+abbrev pub word_fault : Place → ℕ → List ℕ → Said LineForm → Option ProjectFault
+word_fault p number bytes said = first_row (
+    row (is_first p.site && is_bad said) (NotProject number)
+    ∷ row (not (is_first p.site) && (begins_unbuilt p.target (tokens bytes) || names_unbuilt said)) (NotBuilt number)
+    ∷ [])
+
+-- those of a line that says something
+abbrev pub form_fault : Place → ℕ → ℕ → LineForm → Option ProjectFault
+form_fault p number size form = first_row (
+    row (is_chipless p.target (Is form)) (UnknownChip number)
+    ∷ row (is_too_deep p (Is form)) (TooDeep number)
+    ∷ row (is_one_too_many p (Is form) || nat_lt FILE_BYTES (p.bytes + size)) (TooMany number)
+    ∷ [])
+
+-- and those of what it says
+abbrev pub said_fault : Place → ℕ → ℕ → Said LineForm → Option ProjectFault
+said_fault p number size Bad = Some (BadLine number)
+said_fault p number size Range = Some (NumberRange number)
+said_fault p number size (Is form) = form_fault p number size form
+
 -- there may be one more of the line's kind
-abbrev pub RoomFor : Place → Form → Type 0
+abbrev pub RoomFor : Place → LineForm → Type 0
 RoomFor p (Body mark.Rung) = p.rungs < RUNGS
 RoomFor p (Body (mark.Open c)) = (p.depth < DEPTH) × (p.openings < OPENINGS)
 RoomFor p (Body (mark.Element l)) = p.elements < ELEMENTS
@@ -92,8 +74,19 @@ RoomFor p Blank = Unit {0}
 RoomFor p Magic = Unit {0}
 RoomFor p (Header h) = Unit {0}
 
+-- A rung begins where none is open, the other lines of rungs stand in one, and the lines above them in none.
+abbrev pub Fits : Bool → LineForm → Type 0
+Fits opened Blank = Unit {0}
+Fits opened Magic = opened ≡ false
+Fits opened (Header h) = opened ≡ false
+Fits opened (Pins q) = opened ≡ false
+Fits opened (Body mark.Rung) = opened ≡ false
+Fits opened (Body (mark.Open c)) = opened ≡ true
+Fits opened (Body mark.End) = opened ≡ true
+Fits opened (Body (mark.Element l)) = opened ≡ true
+
 -- and for so many bytes
-abbrev pub HasRoom : Place → ℕ → Form → Type 0
+abbrev pub HasRoom : Place → ℕ → LineForm → Type 0
 HasRoom p size form = (p.bytes + size ≤ FILE_BYTES) × RoomFor p form
 
 -- what was read, and where the next line stands
@@ -105,7 +98,11 @@ pub record Standing : Type 0 where
 abbrev pub first : Standing
 first = record { place = start; settings = defaults; tree = Closed [] }
 
-abbrev pub standing_behind : ℕ → Standing → Form → Standing
+-- behind a line that says this, but for its bytes
+abbrev pub went : Standing → LineForm → Standing
+went s form = record { place = behind_form s.place form; settings = settings_behind s.settings form; tree = with_form s.tree form }
+
+abbrev pub standing_behind : ℕ → Standing → LineForm → Standing
 standing_behind size s form = record {
   place = behind_said s.place size (Is form);
   settings = settings_behind s.settings form;
@@ -117,7 +114,7 @@ pub data Taken : Type 0 where
   Stops : (f : ProjectFault) → Taken
 
 -- the last two do not happen, since such a line has a fault
-abbrev pub taken_as : Option ProjectFault → Said Form → ℕ → ℕ → Standing → Taken
+abbrev pub taken_as : Option ProjectFault → Said LineForm → ℕ → ℕ → Standing → Taken
 taken_as (Some f) said number size s = Stops f
 taken_as None (Is form) number size s = Goes (standing_behind size s form)
 taken_as None Bad number size s = Stops (BadLine number)
@@ -178,35 +175,45 @@ finished (Refuses f) = Rejects f
 finished (Reads number [] s) = at_end number (Goes s)
 finished (Reads number (b ∷ bs) s) = at_end (next number) (taken number (b ∷ bs) (length (b ∷ bs)) s)
 
+-- The forms that are open tell whether a line stands in a rung.
+abbrev pub site_at : Bool → held.Place → Site
+site_at true p = site.Inside
+site_at false part.FirstLine = site.First
+site_at false part.Header = site.Header
+site_at false part.PinLines = site.Pins
+site_at false part.Body = site.Between
+
 -- what a reader stands for
-abbrev pub tree_at : List Rung → Option OpenRung → Tree
-tree_at gs None = Closed gs
-tree_at gs (Some rung) = Building gs (reverse rung.frames.items) rung.nodes
+abbrev pub place_of : Reader → Place
+place_of r = record {
+  site = site_at (is_open r.forms) r.place;
+  depth = depth_of r.forms;
+  target = r.target;
+  rungs = r.counts.rungs;
+  elements = r.counts.elements;
+  openings = r.counts.openings;
+  pins = r.counts.pin_lines;
+  bytes = r.counts.bytes;
+}
 
-abbrev pub tree_of : Rack → Tree
-tree_of r = tree_at r.rungs r.open
+abbrev pub settings_of : Reader → Settings
+settings_of r = record { target = r.target; cycle = r.cycle; crystal = r.crystal; baud = r.baud; pins = r.pins }
 
-abbrev pub standing_of : rust.Stand → Standing
-standing_of s = record { place = s.place; settings = s.draft.settings; tree = tree_of s.draft.rack }
+abbrev pub standing_of : Reader → Standing
+standing_of r = record { place = place_of r; settings = settings_of r; tree = tree_at r.rungs r.forms }
 
-abbrev pub mind_of : Cursor → Mind
-mind_of c = Reads c.number c.line.items (standing_of c.stand)
+abbrev pub mind_of : Reader → Mind
+mind_of r = Reads (next r.counts.lines) r.line.items (standing_of r)
 
--- none where memory was wanting
-abbrev pub mind_at : State → Option Mind
-mind_at (state.Reads c) = Some (mind_of c)
-mind_at (state.Refused f) = Some (Refuses f)
-mind_at state.Exhausted = None
-
--- what a reader does behind a piece, where its cursor answers this
-abbrev pub state_behind : Result Cursor TextError → State
-state_behind (Ok c) = state.Reads c
-state_behind (Err (error.Refused f)) = state.Refused f
-state_behind (Err (error.Memory e)) = state.Exhausted
+-- a reader that answered an error, which is none where memory was wanting
+abbrev pub mind_behind : Option TextError → Mind → Option Mind
+mind_behind None m = Some m
+mind_behind (Some (error.Refused f)) m = Some (Refuses f)
+mind_behind (Some (error.Memory e)) m = None
 
 -- The reader stands where the text takes it.
 abbrev pub Stands : Reader → List ℕ → Type 0
-Stands r text = mind_at r.state ≡ Some (fed fresh text)
+Stands r text = mind_behind r.first (mind_of r) ≡ Some (fed fresh text)
 
 -- why an error comes: want of memory may always be
 abbrev pub IsStopped : Taken → TextError → Type 0
@@ -221,13 +228,7 @@ abbrev pub IsRejected : Verdict → TextError → Type 0
 IsRejected v (error.Memory e) = ⊤
 IsRejected v (error.Refused f) = v ≡ Rejects f
 
--- the error that a reader answers from now on
-abbrev pub failure_of : State → Option TextError
-failure_of (state.Reads c) = None
-failure_of (state.Refused f) = Some (error.Refused f)
-failure_of state.Exhausted = Some (error.Memory alloc_error)
-
 -- Behind an error a reader still stands where the text takes it, but where memory was wanting.
 abbrev pub StandsRefused : Reader → List ℕ → TextError → Type 0
 StandsRefused r text (error.Refused f) = Stands r text
-StandsRefused r text (error.Memory e) = r.state ≡ state.Exhausted
+StandsRefused r text (error.Memory e) = r.first ≡ Some (error.Memory e)

@@ -1,5 +1,5 @@
 -- How a project is spelled: what its lines say in order, but for blank ones.
-use Rattle.std.specs.Prelude.{ℕ, List, [], ◌∷◌, ◌++◌, map, None, Some}
+use Rattle.std.specs.Prelude.{ℕ, List, [], ◌∷◌, ◌++◌, map, Option, None, Some}
 use Rattle.chip_tables.specs.declared.target.Target.{Target}
 use Rattle.ladder_tree.specs.declared.project.Node.{Node}
 use Rattle.ladder_tree.specs.declared.project.Node.TheOpen.{Node-F}
@@ -9,11 +9,10 @@ use Rattle.ladder_tree.specs.declared.project.PinLine as pin
 use Rattle.ld_line.specs.declared.header.HeaderLine.TheVariants as header
 use Rattle.ld_line.specs.declared.pins.PinsLine.TheVariants as pins
 use Rattle.ld_line.specs.declared.rungs.Circuit.TheVariants.{Series, Parallel}
-use Rattle.ld_text.specs.declared.draft.Settings.{Settings}
-use Rattle.ld_text.specs.declared.form.Mark.{Mark}
-use Rattle.ld_text.specs.declared.form.Mark.TheVariants as mark
-use Rattle.ld_text.specs.declared.form.Form.{Form}
-use Rattle.ld_text.specs.declared.form.Form.TheVariants.{Magic, Header, Pins, Body}
+use Rattle.ld_text.specs.declared.heard.Mark.{Mark}
+use Rattle.ld_text.specs.declared.heard.Mark.TheVariants as mark
+use Rattle.ld_text.specs.declared.heard.LineForm.{LineForm}
+use Rattle.ld_text.specs.declared.heard.LineForm.TheVariants.{Magic, Header, Pins, Body}
 
 abbrev pub joined : {A : Type 0} → List (List A) → List A
 joined [] = []
@@ -43,10 +42,10 @@ pub data Item : Type 0 where
   Compiled : Item
   PinSection : (lines : List pin.PinLine) → Item
 
-abbrev pub pin_forms : List pin.PinLine → List Form
+abbrev pub pin_forms : List pin.PinLine → List LineForm
 pin_forms ls = map (λ l. Pins (pins.Pin l)) ls
 
-abbrev pub spelled_item : Item → List Form
+abbrev pub spelled_item : Item → List LineForm
 spelled_item (Chip t) = Header (header.Micro (Some t)) ∷ []
 spelled_item (Cycle n) = Header (header.Cycle n) ∷ []
 spelled_item (Crystal n) = Header (header.Crystal n) ∷ []
@@ -54,12 +53,20 @@ spelled_item (Baud n) = Header (header.Baud n) ∷ []
 spelled_item Compiled = Header header.Compiled ∷ []
 spelled_item (PinSection ls) = Header header.Pins ∷ (pin_forms ls ++ Pins pins.End ∷ [])
 
-abbrev pub spelled_items : List Item → List Form
+abbrev pub spelled_items : List Item → List LineForm
 spelled_items is = joined (map spelled_item is)
 
 -- line 1, what stands above PROGRAM, PROGRAM, and the rungs
-abbrev pub spelled_project : List Item → List Rung → List Form
+abbrev pub spelled_project : List Item → List Rung → List LineForm
 spelled_project is gs = Magic ∷ (spelled_items is ++ Header header.Program ∷ map Body (spelled gs))
+
+-- What stands above the rungs: no target while no MICRO line came. Times are microseconds, the crystal is hertz, the rate of the serial line baud.
+pub record Settings : Type 0 where
+  pub target : Option Target
+  pub cycle : ℕ
+  pub crystal : ℕ
+  pub baud : ℕ
+  pub pins : List pin.PinLine
 
 -- the settings where nothing is said: 10 ms, 4 MHz, 2400 baud
 abbrev pub defaults : Settings

@@ -9,24 +9,22 @@ use Rattle.texts.specs.Limits as limits
 use Rattle.texts.specs.declared.limits.TheConstants.{LINE_BYTES, FILE_BYTES}
 use Rattle.ld_line.specs.declared.said.Said.{Said}
 use Rattle.ld_line.specs.declared.said.Said.TheVariants.{Is}
-use Rattle.ld_text.specs.declared.draft.Settings.{Settings}
 use Rattle.ld_text.specs.declared.fault.TextError.{TextError}
 use Rattle.ld_text.specs.declared.fault.TextError.TheVariants.{Refused, Memory}
-use Rattle.ld_text.specs.declared.form.Form.{Form}
-use Rattle.ld_text.specs.declared.form.Form.TheVariants.{Blank}
-use Rattle.ld_text.specs.declared.place.Place.{Place}
+use Rattle.ld_text.specs.declared.heard.LineForm.{LineForm}
+use Rattle.ld_text.specs.declared.heard.LineForm.TheVariants.{Blank}
 use Rattle.ld_text.specs.Lines.{Line, ended_lines, behind_feeds, lines_of}
-use Rattle.ld_text.specs.Place.{start, said_at, behind, behind_all}
+use Rattle.ld_text.specs.Place.{Place, start, said_at, behind, behind_all}
 use Rattle.ld_text.specs.Faults.{line_of, or_else, first_fault, end_fault}
-use Rattle.ld_text.specs.Spelling.{Item, spelled_project, defaults, with_items}
+use Rattle.ld_text.specs.Spelling.{Settings, Item, spelled_project, defaults, with_items}
 
 -- blank lines say nothing
-abbrev pub unblanked : Said Form → List (Said Form) → List (Said Form)
+abbrev pub unblanked : Said LineForm → List (Said LineForm) → List (Said LineForm)
 unblanked (Is Blank) rest = rest
 unblanked said rest = said ∷ rest
 
 -- what lines say, each at its place; the first has the number
-abbrev pub said_by : Place → ℕ → List Line → List (Said Form)
+abbrev pub said_by : Place → ℕ → List Line → List (Said LineForm)
 said_by p number [] = []
 said_by p number (l ∷ ls) = unblanked (said_at p number l) (said_by (behind p number l) (number + 1) ls)
 

@@ -18,10 +18,11 @@ use Rattle.ladder_lower.specs.Correct.{Shows, ShowsAll, KeepsHistory}
 use Rattle.ladder_lower.specs.Outcome.{HasSizes}
 use Rattle.interp_code.specs.Program.{IsProgram, read_as}
 use Rattle.texts.specs.declared.limits.TheConstants.{CODE_BYTES}
-use Rattle.ldmicro_top.specs.Carries.{EachEnds, Carries}
+use Rattle.ldmicro_top.specs.Carries.{EachEnds, CarriesInterp}
 
 -- a cycle executes at most as many operations as there are
-each_ends : (n : Names) (ops : List IntOp) (es : List Ended) (t : Store) (rs : List Reading) → ShowsAll n es (int.history ops t rs) → EachEnds n (length ops) es (int.history ops t rs)
+each_ends : (n : Names) (ops : List IntOp) (es : List Ended) (t : Store) (rs : List Reading) → ShowsAll n es (int.history ops t rs)
+    → EachEnds n (length ops) es (int.history ops t rs)
 each_ends n ops [] t [] h = tt
 each_ends n ops (e ∷ es) t (r ∷ rs) h = (record { ends = h.0; few = cycle_count r ops t }, each_ends n ops es (int.cycle r ops t).store rs h.1)
 each_ends n ops [] t (r ∷ rs) h = absurd h
@@ -33,7 +34,8 @@ mapped_at f (x ∷ xs) zero lt = refl
 mapped_at f (x ∷ xs) (suc k) lt = mapped_at f xs k (omega arith)
 
 -- variables start as the ladder's do, and all else is off
-pub start_shown : (n : Names) (p : Project) (program : IntProgram) (eeprom : ℕ → ℕ) → HasSizes n p program → Shows n (start p eeprom) (store.start program.starts eeprom)
+pub start_shown : (n : Names) (p : Project) (program : IntProgram) (eeprom : ℕ → ℕ) → HasSizes n p program
+    → Shows n (start p eeprom) (store.start program.starts eeprom)
 start_shown n p program eeprom sizes = record {
   outputs = λ k lt. refl;
   relays = λ k lt. refl;
@@ -45,7 +47,9 @@ start_shown n p program eeprom sizes = record {
   duty = refl;
 }
 
-pub carried : (p : Project) (program : IntProgram) (code : List ℕ) → IsProgram (lines code) (read_as p.cycle (names_of p.rungs) program) → length code ≤ CODE_BYTES → HasSizes (names_of p.rungs) p program → KeepsHistory (names_of p.rungs) p program.ops → Carries p code (length program.ops)
+pub carried : (p : Project) (program : IntProgram) (code : List ℕ) → IsProgram (lines code) (read_as p.cycle (names_of p.rungs) program)
+    → length code ≤ CODE_BYTES → HasSizes (names_of p.rungs) p program → KeepsHistory (names_of p.rungs) p program.ops
+    → CarriesInterp p code (length program.ops)
 carried p program code read within sizes keeps = record {
   program = read_as p.cycle (names_of p.rungs) program;
   read = read;
@@ -58,5 +62,7 @@ carried p program code read within sizes keeps = record {
   relays = refl;
   persistent = refl;
   operations = refl;
-  each = λ eeprom rs. each_ends (names_of p.rungs) program.ops _ (store.start program.starts eeprom) rs (keeps.each (start p eeprom) (store.start program.starts eeprom) rs (start_shown (names_of p.rungs) p program eeprom sizes));
+  each = λ eeprom rs.
+      let begun = store.start program.starts eeprom in
+      each_ends (names_of p.rungs) program.ops _ begun rs (keeps.each (start p eeprom) begun rs (start_shown (names_of p.rungs) p program eeprom sizes));
 }

@@ -15,7 +15,7 @@ use Rattle.interp_code.specs.Draft.{Draft, start, read}
 use Rattle.interp_code.specs.Held.{program_of}
 use Rattle.interp_code.proofs.Reading.{ended, says_ends}
 use Rattle.interp_code.proofs.Outcomes.{front_begun}
-use Rattle.ldmicro_top.specs.Expected.{IsCode, IsCodeRefusedAt}
+use Rattle.ldmicro_top.specs.Code.{IsCode, IsCodeRefusedAt}
 
 operations_in-append : (a b : List (List ℕ)) → operations_in (a ++ b) ≡ operations_in a + operations_in b
 operations_in-append [] b = omega arith

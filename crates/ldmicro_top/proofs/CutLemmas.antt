@@ -10,7 +10,7 @@ use Rattle.ladder_tree.specs.declared.names.Names.{Names}
 use Rattle.ladder_trace.specs.Trace as trace
 use Rattle.interp_code.specs.Refused as interp
 use Rattle.interp_code.specs.declared.program.InterpProgram.{InterpProgram}
-use Rattle.ldmicro_top.specs.Expected.{IsCode, IsCodeRefusedAt}
+use Rattle.ldmicro_top.specs.Code.{IsCode, IsCodeRefusedAt}
 
 -- what a name holds, up to the first byte past the limit
 abbrev pub Found : ℕ → Held → List ℕ → List ℕ → Type 0
@@ -29,13 +29,16 @@ uncut limit text within = take_all (limit + 1) text (omega (arith, length-take (
 
 pub verdict_whole : (n : Names) (text : List ℕ) → trace.verdict n (limits.judged FILE_BYTES text) ≡ trace.verdict n text
 verdict_whole n text =
-    ap (λ (x : List ℕ). trace.verdict_by (nat_lt FILE_BYTES (length (limits.judged FILE_BYTES text))) (length (lines x)) (trace.read n (lines x))) (cut_again (FILE_BYTES + 1) text)
-    ∙ ap (λ (over : Bool). trace.verdict_by over (length (lines (limits.judged FILE_BYTES text))) (trace.read n (lines (limits.judged FILE_BYTES text)))) (over_still FILE_BYTES text)
+    ap (λ (x : List ℕ). trace.verdict_by (nat_lt FILE_BYTES (length (limits.judged FILE_BYTES text))) (length (lines x)) (trace.read n (lines x)))
+    (cut_again (FILE_BYTES + 1) text)
+    ∙ ap (λ (over : Bool). trace.verdict_by over (length (lines (limits.judged FILE_BYTES text))) (trace.read n (lines (limits.judged FILE_BYTES text))))
+    (over_still FILE_BYTES text)
 
 pub code_whole : (text : List ℕ) (program : InterpProgram) → IsCode (limits.judged CODE_BYTES text) program → IsCode text program
 code_whole text program h = subst (λ (x : List ℕ). IsCode x program) (uncut CODE_BYTES text h.1) h
 
 pub code_refused_whole : (text : List ℕ) (line : ℕ) → IsCodeRefusedAt (limits.judged CODE_BYTES text) line → IsCodeRefusedAt text line
 code_refused_whole text line h =
-    let cut = subst (λ (x : List ℕ). interp.IsRefusedAt (nat_lt CODE_BYTES (length (limits.judged CODE_BYTES text))) (lines x) line) (cut_again (CODE_BYTES + 1) text) h in
+    let over = nat_lt CODE_BYTES (length (limits.judged CODE_BYTES text)) in
+    let cut = subst (λ (x : List ℕ). interp.IsRefusedAt over (lines x) line) (cut_again (CODE_BYTES + 1) text) h in
     subst (λ (over : Bool). interp.IsRefusedAt over (lines (limits.judged CODE_BYTES text)) line) (over_still CODE_BYTES text) cut

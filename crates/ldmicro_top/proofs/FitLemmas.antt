@@ -42,7 +42,8 @@ both a b e f = rw (e, f) refl
 abbrev none_long : ℕ → List element.Leaf → Bool
 none_long cycle ls = list_all (λ l. not (is_long cycle l.kind)) ls
 
-timers_by : (p : Project) (pre : List element.Leaf) (xs : List Placed) → first_fault (fault_of TimerLong p) (spots_behind pre xs) ≡ None → none_long p.cycle (elements xs) ≡ true
+timers_by : (p : Project) (pre : List element.Leaf) (xs : List Placed) → first_fault (fault_of TimerLong p) (spots_behind pre xs) ≡ None
+    → none_long p.cycle (elements xs) ≡ true
 timers_by p pre [] e = refl
 timers_by p pre (x ∷ xs) e =
     let two = neither (fault_of TimerLong p (record { leaf = x.leaf; before = pre; at_right_end = x.at_right_end })) _ e in

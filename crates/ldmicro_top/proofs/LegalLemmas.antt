@@ -55,7 +55,14 @@ each_sized : (ns : List Node) → Each IsSized ns → size_in ns ≡ length (lea
 each_sized [] h = refl
 each_sized (n ∷ ns) h =
     let rest = each_sized ns h.1 in
-    omega (arith, h.0, rest, length-append (leaves n) (leaves_in ns), sum_by-cons (λ x. x) (size_of n) (map size_of ns), sum_by-cons (λ x. x) (forms_of n) (map forms_of ns))
+    omega (
+      arith,
+      h.0,
+      rest,
+      length-append (leaves n) (leaves_in ns),
+      sum_by-cons (λ x. x) (size_of n) (map size_of ns),
+      sum_by-cons (λ x. x) (forms_of n) (map forms_of ns),
+    )
 
 leaf_sized : (l : leaf.Leaf) → IsSized (Leaf l)
 leaf_sized l =
@@ -102,7 +109,8 @@ small n h = grind (arith, nat_tests)
 
 short_kind : (k : LeafKind) → is_read_kind k ≡ true → extent k ≤ 60
 short_kind (kind.Shift name places) h = let a = both_true (is_name name) _ h in let b = both_true (nat_le 1 places) _ a.1 in small places b.1
-short_kind (kind.Table dest index as_text values) h = let a = both_true (is_name dest) _ h in let b = both_true _ (nat_le (length values) 60) a.1 in small (length values) b.1
+short_kind (kind.Table dest index as_text values) h =
+    let a = both_true (is_name dest) _ h in let b = both_true _ (nat_le (length values) 60) a.1 in small (length values) b.1
 short_kind _ h = omega arith
 
 all_short : (ls : List leaf.Leaf) → list_all (λ l. is_read_kind l.kind) ls ≡ true → All IsShort ls
@@ -113,7 +121,8 @@ pub within_limits : (p : Project) → IsWithin p → IsWithinLimits p.rungs
 within_limits p w = record { rungs = w.rungs; elements = w.elements; forms = w.forms; extents = all_short (all_leaves p.rungs) w.read }
 
 -- what is asked of a project that is lowered
-pub can_lower : (n : Names) (p : Project) → n ≡ names_of p.rungs → IsWithin p → rule p ≡ None → list_all (λ l. has_kind l.kind) (all_leaves p.rungs) ≡ true → CanLower n p
+pub can_lower : (n : Names) (p : Project) → n ≡ names_of p.rungs → IsWithin p → rule p ≡ None → list_all (λ l. has_kind l.kind) (all_leaves p.rungs) ≡ true
+    → CanLower n p
 can_lower n p named w r kinds = record {
   names = named;
   named = well_named p w kinds;

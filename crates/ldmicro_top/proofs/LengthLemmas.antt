@@ -47,7 +47,8 @@ second_true : (a b : Bool) → a && b ≡ true → b ≡ true
 second_true true b h = h
 second_true false b h = cc
 
-names_short : (word : List ℕ) (names : List (List ℕ)) → length word ≤ 8 → list_all (is_name_within 66) names ≡ true → length (joined (map (λ n. word ++ n) names)) ≤ 75 * length names
+names_short : (word : List ℕ) (names : List (List ℕ)) → length word ≤ 8 → list_all (is_name_within 66) names ≡ true
+    → length (joined (map (λ n. word ++ n) names)) ≤ 75 * length names
 names_short word [] w h = omega arith
 names_short word (n ∷ ns) w h =
     let one = name_short n (first_true (is_name_within 66 n) _ h) in
@@ -55,7 +56,8 @@ names_short word (n ∷ ns) w h =
     omega (arith, length-append word n, length-append (word ++ n) (10 ∷ joined (map (λ n. word ++ n) ns)))
 
 -- a line more for each variable
-variables_short : (names : List (List ℕ)) (starts : List ℤ) → list_all (is_name_within 66) names ≡ true → All IsNumber starts → length (joined (map line_text (variables names starts))) ≤ 80 * length names
+variables_short : (names : List (List ℕ)) (starts : List ℤ) → list_all (is_name_within 66) names ≡ true → All IsNumber starts
+    → length (joined (map line_text (variables names starts))) ≤ 80 * length names
 variables_short [] starts h n = omega arith
 variables_short (name ∷ names) [] h n = omega arith
 variables_short (name ∷ names) (z ∷ zs) h n =
@@ -63,11 +65,21 @@ variables_short (name ∷ names) (z ∷ zs) h n =
     let digits = signed_short z (All-head IsNumber z zs n) in
     let more = variables_short names zs (second_true (is_name_within 66 name) _ h) (All-tail IsNumber z zs n) in
     let rest = joined (map line_text (variables names zs)) in
-    omega (arith, one, digits, more, length-append (codes "var " ++ (name ++ (codes " " ++ signed_decimal z))) (10 ∷ rest), length-append (codes "var ") (name ++ (codes " " ++ signed_decimal z)), length-append name (codes " " ++ signed_decimal z), length-append (codes " ") (signed_decimal z))
+    omega (
+      arith,
+      one,
+      digits,
+      more,
+      length-append (codes "var " ++ (name ++ (codes " " ++ signed_decimal z))) (10 ∷ rest),
+      length-append (codes "var ") (name ++ (codes " " ++ signed_decimal z)),
+      length-append name (codes " " ++ signed_decimal z),
+      length-append (codes " ") (signed_decimal z),
+    )
 
 starts_numbers : (cycle : ℕ) (ls : List leaf.Leaf) (names : List (List ℕ)) → all_fit cycle ls ≡ true → All IsNumber (map (start_number cycle ls) names)
 starts_numbers cycle ls [] h = All-nil IsNumber
-starts_numbers cycle ls (n ∷ ns) h = All-cons IsNumber (start_number cycle ls n) (map (start_number cycle ls) ns) (start_is_number cycle ls n h) (starts_numbers cycle ls ns h)
+starts_numbers cycle ls (n ∷ ns) h =
+    All-cons IsNumber (start_number cycle ls n) (map (start_number cycle ls) ns) (start_is_number cycle ls n h) (starts_numbers cycle ls ns h)
 
 head_short : (cycle : ℕ) → cycle ≤ 999999999 → length (joined (map line_text (Magic ∷ (Cycle cycle ∷ [])))) ≤ 100
 head_short cycle le =
@@ -80,7 +92,8 @@ sizes_short bits le =
     omega (arith, length-append (codes "bits " ++ decimal bits) (10 ∷ (codes "code" ++ 10 ∷ [])))
 
 module _ (a b c d e f g h i : List ℕ) where
-  nine_parts : length (a ++ (b ++ (c ++ (d ++ (e ++ (f ++ (g ++ (h ++ i)))))))) ≡ length a + (length b + (length c + (length d + (length e + (length f + (length g + (length h + length i)))))))
+  nine_parts : length (a ++ (b ++ (c ++ (d ++ (e ++ (f ++ (g ++ (h ++ i))))))))
+      ≡ length a + (length b + (length c + (length d + (length e + (length f + (length g + (length h + length i)))))))
   nine_parts = omega (
     arith,
     length-append a (b ++ (c ++ (d ++ (e ++ (f ++ (g ++ (h ++ i))))))),
@@ -93,7 +106,9 @@ module _ (a b c d e f g h i : List ℕ) where
     length-append h i,
   )
 
-pub text_short : (q : Project) (names : Names) (program : IntProgram) → IsWritable q.cycle names program → IsSmall names → Few names → HasRoom program → AllHoldNumbers program.ops → HasSizes names q program → all_fit q.cycle (all_leaves q.rungs) ≡ true → length (interp_text q.cycle names program) ≤ 67108864
+pub text_short : (q : Project) (names : Names) (program : IntProgram) → IsWritable q.cycle names program → IsSmall names → Few names → HasRoom program
+    → AllHoldNumbers program.ops → HasSizes names q program → all_fit q.cycle (all_leaves q.rungs) ≡ true
+    → length (interp_text q.cycle names program) ≤ 67108864
 text_short q names program w small few room numbers sizes fit =
     let s = w.sound in
     let short : AreShort (sizes_of program) = record {

@@ -1,4 +1,5 @@
 pub mod RanLemmas
+pub mod TargetLemmas
 pub mod GoodLemmas
 pub mod CodeLemmas
 pub mod CarryLemmas

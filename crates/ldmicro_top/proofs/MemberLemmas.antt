@@ -37,7 +37,8 @@ back : (n : List ℕ) (a b : List (List ℕ)) → member n b ≡ true → member
 back n [] b h = h
 back n (x ∷ a) b h = or_right _ _ (back n a b h)
 
-kept_by : (n x : List ℕ) (seen ns : List (List ℕ)) (b : Bool) → member n (firsts_from seen ns) ≡ true → member n (firsts_from (seen ++ x ∷ []) ns) ≡ true → member n (cond b (firsts_from seen ns) (firsts_from (seen ++ x ∷ []) ns)) ≡ true
+kept_by : (n x : List ℕ) (seen ns : List (List ℕ)) (b : Bool) → member n (firsts_from seen ns) ≡ true → member n (firsts_from (seen ++ x ∷ []) ns) ≡ true
+    → member n (cond b (firsts_from seen ns) (firsts_from (seen ++ x ∷ []) ns)) ≡ true
 kept_by n x seen ns true h k = h
 kept_by n x seen ns false h k = k
 
@@ -46,7 +47,8 @@ kept : (n : List ℕ) (seen ns : List (List ℕ)) → member n seen ≡ true →
 kept n seen [] h = h
 kept n seen (x ∷ ns) h = kept_by n x seen ns (member x seen) (kept n seen ns h) (kept n (seen ++ x ∷ []) ns (front n seen (x ∷ []) h))
 
-found_by : (x : List ℕ) (seen ns : List (List ℕ)) (b : Bool) → member x seen ≡ b → member x (cond b (firsts_from seen ns) (firsts_from (seen ++ x ∷ []) ns)) ≡ true
+found_by : (x : List ℕ) (seen ns : List (List ℕ)) (b : Bool) → member x seen ≡ b
+    → member x (cond b (firsts_from seen ns) (firsts_from (seen ++ x ∷ []) ns)) ≡ true
 found_by x seen ns true e = kept x seen ns e
 found_by x seen ns false e = kept x (seen ++ x ∷ []) ns (back x seen (x ∷ []) (or_left _ _ (same_name x)))
 
@@ -97,7 +99,8 @@ module _ (names : LeafKind → List (List ℕ)) (within : (k : LeafKind) → are
       (wider (variable_names l.kind) _ (names l.kind) (λ n h. front n (variable_names l.kind) (all_named variable_names ls) h) (within l.kind))
       (wider (all_named variable_names ls) _ (all_named names ls) (λ n h. back n (variable_names l.kind) (all_named variable_names ls) h) (all_within ls))
 
-first_by : (list seen : List (List ℕ)) (x : List ℕ) (ns : List (List ℕ)) (b : Bool) → are_members list (firsts_from seen ns) ≡ true → are_members list (firsts_from (seen ++ x ∷ []) ns) ≡ true → are_members list (cond b (firsts_from seen ns) (firsts_from (seen ++ x ∷ []) ns)) ≡ true
+first_by : (list seen : List (List ℕ)) (x : List ℕ) (ns : List (List ℕ)) (b : Bool) → are_members list (firsts_from seen ns) ≡ true
+    → are_members list (firsts_from (seen ++ x ∷ []) ns) ≡ true → are_members list (cond b (firsts_from seen ns) (firsts_from (seen ++ x ∷ []) ns)) ≡ true
 first_by list seen x ns true h k = h
 first_by list seen x ns false h k = k
 
@@ -105,7 +108,8 @@ firsts_within : (list seen ns : List (List ℕ)) → are_members list seen ≡ t
 firsts_within list seen [] h k = h
 firsts_within list seen (x ∷ ns) h k =
     let rest = second_true _ _ k in
-    first_by list seen x ns (member x seen) (firsts_within list seen ns h rest) (firsts_within list (seen ++ x ∷ []) ns (joined list seen (x ∷ []) h (both _ _ (first_true _ _ k) refl)) rest)
+    first_by list seen x ns (member x seen) (firsts_within list seen ns h rest)
+    (firsts_within list (seen ++ x ∷ []) ns (joined list seen (x ∷ []) h (both _ _ (first_true _ _ k) refl)) rest)
 
 of_firsts : (vs ns : List (List ℕ)) → are_members vs ns ≡ true → are_members (firsts vs) (firsts ns) ≡ true
 of_firsts vs ns h = firsts_within (firsts vs) [] ns refl (wider vs (firsts vs) ns (λ n e. in_firsts n vs e) h)

@@ -20,21 +20,30 @@ use Rattle.ldmicro_top.proofs.MemberLemmas.{analog_variables, persistent_variabl
 use Rattle.ldmicro_top.proofs.VariableLemmas.{variables_within, analogs_within, persistents_within}
 
 -- one more name that is none of those before
-differ_by : (seen xs : List (List ℕ)) (x n : List ℕ) (b : Bool) → (differ_from (seen ++ x ∷ []) xs ≡ true → differ_from (seen ++ x ∷ []) (xs ++ n ∷ []) ≡ true) → list_any (bytes_eq x) seen ≡ b → not b && differ_from (seen ++ x ∷ []) xs ≡ true → not (list_any (bytes_eq x) seen) && differ_from (seen ++ x ∷ []) (xs ++ n ∷ []) ≡ true
+differ_by : (seen xs : List (List ℕ)) (x n : List ℕ) (b : Bool) → (differ_from (seen ++ x ∷ []) xs ≡ true → differ_from (seen ++ x ∷ []) (xs ++ n ∷ []) ≡ true)
+    → list_any (bytes_eq x) seen ≡ b → not b && differ_from (seen ++ x ∷ []) xs ≡ true
+    → not (list_any (bytes_eq x) seen) && differ_from (seen ++ x ∷ []) (xs ++ n ∷ []) ≡ true
 differ_by seen xs x n true rest e k = absurd (cc)
 differ_by seen xs x n false rest e k = rw (e, rest k) refl
 
-differ_more : (seen xs : List (List ℕ)) (n : List ℕ) → differ_from seen xs ≡ true → list_any (bytes_eq n) (seen ++ xs) ≡ false → differ_from seen (xs ++ n ∷ []) ≡ true
+differ_more : (seen xs : List (List ℕ)) (n : List ℕ) → differ_from seen xs ≡ true → list_any (bytes_eq n) (seen ++ xs) ≡ false
+    → differ_from seen (xs ++ n ∷ []) ≡ true
 differ_more seen [] n h new = let e : list_any (bytes_eq n) seen ≡ false = ap (list_any (bytes_eq n)) (sym (append-nil seen)) ∙ new in rw e refl
-differ_more seen (x ∷ xs) n h new = differ_by seen xs x n (list_any (bytes_eq x) seen) (λ k. differ_more (seen ++ x ∷ []) xs n k (ap (list_any (bytes_eq n)) (append_assoc seen (x ∷ []) xs) ∙ new)) refl h
+differ_more seen (x ∷ xs) n h new =
+    differ_by seen xs x n (list_any (bytes_eq x) seen)
+    (λ k. differ_more (seen ++ x ∷ []) xs n k (ap (list_any (bytes_eq n)) (append_assoc seen (x ∷ []) xs) ∙ new)) refl h
 
-firsts_by : (seen ns : List (List ℕ)) (n : List ℕ) (b : Bool) → (differ_from [] (firsts_from seen ns) ≡ true) → (list_any (bytes_eq n) seen ≡ false → differ_from [] (firsts_from (seen ++ n ∷ []) ns) ≡ true) → list_any (bytes_eq n) seen ≡ b → differ_from [] (cond b (firsts_from seen ns) (firsts_from (seen ++ n ∷ []) ns)) ≡ true
+firsts_by : (seen ns : List (List ℕ)) (n : List ℕ) (b : Bool) → (differ_from [] (firsts_from seen ns) ≡ true)
+    → (list_any (bytes_eq n) seen ≡ false → differ_from [] (firsts_from (seen ++ n ∷ []) ns) ≡ true) → list_any (bytes_eq n) seen ≡ b
+    → differ_from [] (cond b (firsts_from seen ns) (firsts_from (seen ++ n ∷ []) ns)) ≡ true
 firsts_by seen ns n true known new e = known
 firsts_by seen ns n false known new e = new e
 
 firsts_differ_from : (seen ns : List (List ℕ)) → differ_from [] seen ≡ true → differ_from [] (firsts_from seen ns) ≡ true
 firsts_differ_from seen [] h = h
-firsts_differ_from seen (n ∷ ns) h = firsts_by seen ns n (list_any (bytes_eq n) seen) (firsts_differ_from seen ns h) (λ e. firsts_differ_from (seen ++ n ∷ []) ns (differ_more [] seen n h e)) refl
+firsts_differ_from seen (n ∷ ns) h =
+    firsts_by seen ns n (list_any (bytes_eq n) seen) (firsts_differ_from seen ns h)
+    (λ e. firsts_differ_from (seen ++ n ∷ []) ns (differ_more [] seen n h e)) refl
 
 pub firsts_differ : (ns : List (List ℕ)) → all_differ (firsts ns) ≡ true
 firsts_differ ns = firsts_differ_from [] ns refl
@@ -69,11 +78,15 @@ module _ (P : List ℕ → Bool) where
 
   all_firsts_from : (seen ns : List (List ℕ)) → list_all P seen ≡ true → list_all P ns ≡ true → list_all P (firsts_from seen ns) ≡ true
   all_firsts_from seen [] h k = h
-  all_firsts_from seen (n ∷ ns) h k = all_by (list_any (bytes_eq n) seen) _ _ (all_firsts_from seen ns h (second_true (P n) _ k)) (all_firsts_from (seen ++ n ∷ []) ns (all_append seen (n ∷ []) h (both_true (P n) true (first_true (P n) _ k) refl)) (second_true (P n) _ k))
+  all_firsts_from seen (n ∷ ns) h k =
+      all_by (list_any (bytes_eq n) seen) _ _ (all_firsts_from seen ns h (second_true (P n) _ k))
+      (all_firsts_from (seen ++ n ∷ []) ns (all_append seen (n ∷ []) h (both_true (P n) true (first_true (P n) _ k) refl)) (second_true (P n) _ k))
 
 bits_named : (ls : List leaf.Leaf) → all_well_named ls ≡ true → list_all is_name (all_bits ls) ≡ true
 bits_named [] h = refl
-bits_named (l ∷ ls) h = all_append is_name (bit_names l.kind) (all_bits ls) (second_true (has_kind l.kind) _ (first_true (is_well_named l.kind) _ h)) (bits_named ls (second_true (is_well_named l.kind) _ h))
+bits_named (l ∷ ls) h =
+    all_append is_name (bit_names l.kind) (all_bits ls) (second_true (has_kind l.kind) _ (first_true (is_well_named l.kind) _ h))
+    (bits_named ls (second_true (is_well_named l.kind) _ h))
 
 pub listed_named : (is_kind : List ℕ → Bool) (ls : List leaf.Leaf) → all_well_named ls ≡ true → list_all is_name (firsts (appearances is_kind ls)) ≡ true
 listed_named is_kind ls h = all_firsts_from is_name [] (appearances is_kind ls) refl (all_filter is_name is_kind (all_bits ls) (bits_named ls h))
@@ -89,7 +102,8 @@ and_last false b c d f h = cc
 -- a name of a project is short enough for a text
 within_66 : (name : List ℕ) → is_name name ≡ true → is_name_within 66 name ≡ true
 within_66 [] h = cc
-within_66 (b ∷ bs) h = and_last (not (is_digit b)) (list_all is_name_byte (b ∷ bs)) (nat_le (length (b ∷ bs)) 64) (nat_le (length (b ∷ bs)) 66) (within_more (length (b ∷ bs))) h
+within_66 (b ∷ bs) h =
+    and_last (not (is_digit b)) (list_all is_name_byte (b ∷ bs)) (nat_le (length (b ∷ bs)) 64) (nat_le (length (b ∷ bs)) 66) (within_more (length (b ∷ bs))) h
 
 all_within : (names : List (List ℕ)) → list_all is_name names ≡ true → list_all (is_name_within 66) names ≡ true
 all_within [] h = refl
@@ -98,11 +112,14 @@ all_within (n ∷ ns) h = both_true (is_name_within 66 n) _ (within_66 n (first_
 firsts_within : (names : List (List ℕ)) → list_all (is_name_within 66) names ≡ true → list_all (is_name_within 66) (firsts names) ≡ true
 firsts_within names h = all_firsts_from (is_name_within 66) [] names refl h
 
-pub listed_within : (is_kind : List ℕ → Bool) (ls : List leaf.Leaf) → all_well_named ls ≡ true → list_all (is_name_within 66) (firsts (appearances is_kind ls)) ≡ true
+pub listed_within : (is_kind : List ℕ → Bool) (ls : List leaf.Leaf) → all_well_named ls ≡ true
+    → list_all (is_name_within 66) (firsts (appearances is_kind ls)) ≡ true
 listed_within is_kind ls h = all_within (firsts (appearances is_kind ls)) (listed_named is_kind ls h)
 
 -- a project's names and its program have a text
-pub writable : (gs : List Rung) (q : Project) (program : IntProgram) → all_well_named (all_leaves gs) ≡ true → list_all (λ l. is_read_kind l.kind) (all_leaves gs) ≡ true → q.cycle ≤ 999999999 → length (names_of gs).persistent ≤ 256 → IsWellFormed program → AllHoldNumbers program.ops → HasSizes (names_of gs) q program → HasRoom program → IsWritable q.cycle (names_of gs) program
+pub writable : (gs : List Rung) (q : Project) (program : IntProgram) → all_well_named (all_leaves gs) ≡ true
+    → list_all (λ l. is_read_kind l.kind) (all_leaves gs) ≡ true → q.cycle ≤ 999999999 → length (names_of gs).persistent ≤ 256 → IsWellFormed program
+    → AllHoldNumbers program.ops → HasSizes (names_of gs) q program → HasRoom program → IsWritable q.cycle (names_of gs) program
 writable gs q program named read timed few formed numbers sizes room =
     let ls = all_leaves gs in
     record {
@@ -137,7 +154,10 @@ writable gs q program named read timed few formed numbers sizes room =
     }
 
 -- the same of the names that were listed
-pub writable_names : (q : Project) (n : Names) (program : IntProgram) → n ≡ names_of q.rungs → all_well_named (all_leaves q.rungs) ≡ true → list_all (λ l. is_read_kind l.kind) (all_leaves q.rungs) ≡ true → q.cycle ≤ 999999999 → length n.persistent ≤ 256 → IsWellFormed program → AllHoldNumbers program.ops → HasSizes n q program → HasRoom program → IsWritable q.cycle n program
+pub writable_names : (q : Project) (n : Names) (program : IntProgram) → n ≡ names_of q.rungs → all_well_named (all_leaves q.rungs) ≡ true
+    → list_all (λ l. is_read_kind l.kind) (all_leaves q.rungs) ≡ true → q.cycle ≤ 999999999 → length n.persistent ≤ 256 → IsWellFormed program
+    → AllHoldNumbers program.ops → HasSizes n q program → HasRoom program → IsWritable q.cycle n program
 writable_names q n program e named read timed few formed numbers sizes room =
     subst (λ (m : Names). IsWritable q.cycle m program) (sym e)
-    (writable q.rungs q program named read timed (subst (λ (m : Names). length m.persistent ≤ 256) e few) formed numbers (subst (λ (m : Names). HasSizes m q program) e sizes) room)
+    (writable q.rungs q program named read timed (subst (λ (m : Names). length m.persistent ≤ 256) e few) formed numbers
+    (subst (λ (m : Names). HasSizes m q program) e sizes) room)

@@ -15,7 +15,8 @@ use Rattle.ldmicro_top.specs.Verdict.{refusal_of, kept_of, misfit}
 pub numbers : (n : Names) → IsSmall n → AreNumbers (kept_of n)
 numbers n small = record { ram = let v = small.variables in let k = small.kept in omega arith; eeprom = let k = small.kept in omega arith }
 
-none_over : (a b : Bool) (r s e f : ℕ) → option_map refusal_of (cond a (Some (RamFull r s)) (cond b (Some (EepromFull e f)) None)) ≡ None → (a ≡ false) × (b ≡ false)
+none_over : (a b : Bool) (r s e f : ℕ) → option_map refusal_of (cond a (Some (RamFull r s)) (cond b (Some (EepromFull e f)) None)) ≡ None
+    → (a ≡ false) × (b ≡ false)
 none_over true b r s e f h = let clash : ⊥ = cc in absurd clash
 none_over false true r s e f h = let clash : ⊥ = cc in absurd clash
 none_over false false r s e f h = (refl, refl)

@@ -9,6 +9,7 @@ pub found : {S : Type 0} (s : S) (ls : List leaf.Leaf) → is_some (visits at_se
 found s [] = refl
 found s (l ∷ ls) = by (is_set_pwm l.kind) refl (found s ls)
   where
-    by : (b : Bool) → is_set_pwm l.kind ≡ b → is_some (visits at_set_pwm s ls).0 ≡ has_set_pwm ls → is_some (visits at_set_pwm s (l ∷ ls)).0 ≡ has_set_pwm (l ∷ ls)
+    by : (b : Bool) → is_set_pwm l.kind ≡ b → is_some (visits at_set_pwm s ls).0 ≡ has_set_pwm ls
+        → is_some (visits at_set_pwm s (l ∷ ls)).0 ≡ has_set_pwm (l ∷ ls)
     by true e rest = rw e refl
     by false e rest = rw e rest

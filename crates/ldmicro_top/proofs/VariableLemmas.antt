@@ -76,7 +76,8 @@ operand_within (Num n) h = refl
 
 numbered_all : (name : List ℕ) (k : ℕ) → is_name name ≡ true → k ≤ 60 → are_within (numbered_names name k) ≡ true
 numbered_all name zero h le = refl
-numbered_all name (suc k) h le = joined (numbered_names name k) _ (numbered_all name k h (omega (arith, le))) (both _ _ (numbered_within name k h (omega (arith, le))) refl)
+numbered_all name (suc k) h le =
+    joined (numbered_names name k) _ (numbered_all name k h (omega (arith, le))) (both _ _ (numbered_within name k h (omega (arith, le))) refl)
 
 with_operand : (dest : List ℕ) (a : Operand) → is_name dest ≡ true → is_read_operand a ≡ true → are_within (dest ∷ operand_names a) ≡ true
 with_operand dest a h k = both _ _ (within_66 dest h) (operand_within a k)
@@ -90,7 +91,8 @@ names_within (kind.Math how dest a b) h =
     let p = parts (is_name dest) _ h in
     let q = parts (is_read_operand a) _ p.1 in
     both _ _ (within_66 dest p.0) (joined (operand_names a) (operand_names b) (operand_within a q.0) (operand_within b q.1))
-names_within (kind.Compare how a b) h = let q = parts (is_read_operand a) _ h in joined (operand_names a) (operand_names b) (operand_within a q.0) (operand_within b q.1)
+names_within (kind.Compare how a b) h =
+    let q = parts (is_read_operand a) _ h in joined (operand_names a) (operand_names b) (operand_within a q.0) (operand_within b q.1)
 names_within (kind.Shift name places) h =
     let p = parts (is_name name) _ h in
     let q = parts (nat_le 1 places) _ p.1 in
@@ -128,5 +130,6 @@ variables_within = all_within variable_names names_within
 pub analogs_within : (ls : List leaf.Leaf) → list_all (λ l. is_read_kind l.kind) ls ≡ true → list_all (is_name_within 66) (all_named analog_names ls) ≡ true
 analogs_within = all_within analog_names analog_within
 
-pub persistents_within : (ls : List leaf.Leaf) → list_all (λ l. is_read_kind l.kind) ls ≡ true → list_all (is_name_within 66) (all_named persistent_names ls) ≡ true
+pub persistents_within : (ls : List leaf.Leaf) → list_all (λ l. is_read_kind l.kind) ls ≡ true
+    → list_all (is_name_within 66) (all_named persistent_names ls) ≡ true
 persistents_within = all_within persistent_names persistent_within

@@ -1,5 +1,7 @@
--- When an interpretable text carries a project: cycle by cycle, what the text's program does is what the ladder does.
+-- When bytes carry a project: cycle by cycle, what its target does with them is what the ladder does.
 use Rattle.std.specs.Prelude.{◌≡◌, ℕ, ◌≤◌, List, [], ◌∷◌, length, map}
+use Rattle.chip_tables.specs.declared.target.Target.{Target}
+use Rattle.chip_tables.specs.declared.target.Target.TheVariants.{F628, F877, Mega16, Interp, AnsiC}
 use Rattle.texts.specs.Lines.{lines}
 use Rattle.texts.specs.declared.limits.TheConstants.{CODE_BYTES}
 use Rattle.ladder_tree.specs.declared.names.Names.{Names}
@@ -27,9 +29,9 @@ EachEnds n most (e ∷ es) (m ∷ ms) = EndsWithin n most e m × EachEnds n most
 EachEnds n most [] (m ∷ ms) = ⊥
 EachEnds n most (e ∷ es) [] = ⊥
 
--- From the start with any EEPROM, on any readings: the text's program has the project's cycle time and names, and ends every cycle with
+-- An interpretable text. From the start with any EEPROM, on any readings: its program has the project's cycle time and names, and ends every cycle with
 -- the outputs, relays, variables, memories, EEPROM, duty and sent bytes of the ladder, after at most as many operations as the text has.
-pub record Carries (p : Project) (code : List ℕ) (most : ℕ) : Type 0 where
+pub record CarriesInterp (p : Project) (code : List ℕ) (most : ℕ) : Type 0 where
   pub program : InterpProgram
   pub read : IsProgram (lines code) program
   pub within : length code ≤ CODE_BYTES
@@ -44,3 +46,15 @@ pub record Carries (p : Project) (code : List ℕ) (most : ℕ) : Type 0 where
   pub each : (eeprom : ℕ → ℕ) (rs : List Reading) → EachEnds (names_of p.rungs) most
       (history p (start p eeprom) (map (seen (names_of p.rungs)) rs))
       (int.history program.program.ops (store.start program.program.starts eeprom) rs)
+
+-- On a target the bytes do what the project's ladder means. At most so many cycles pass in a cycle of the ladder, and so many before the first: operations
+-- of the interpreter, which has none before the first. Of a target that is not built no bytes carry a project.
+abbrev pub CarriesOn : Target → Project → List ℕ → ℕ → ℕ → Type 0
+CarriesOn F628 p code cycles boot = ⊥
+CarriesOn F877 p code cycles boot = ⊥
+CarriesOn Mega16 p code cycles boot = ⊥
+CarriesOn Interp p code cycles boot = CarriesInterp p code cycles
+CarriesOn AnsiC p code cycles boot = ⊥
+
+abbrev pub Carries : Project → List ℕ → ℕ → ℕ → Type 0
+Carries p code cycles boot = CarriesOn p.target p code cycles boot

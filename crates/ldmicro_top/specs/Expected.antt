@@ -1,9 +1,8 @@
 -- The answer that is expected of the words and of what the names hold.
-use Rattle.std.specs.Prelude.{◌≡◌, ◌⊎◌, ℕ, ◌≤◌, Bool, true, false, List, length, Option, Some, None, Result, Ok, Err}
+use Rattle.std.specs.Prelude.{◌≡◌, ◌⊎◌, ℕ, Bool, true, false, List, Option, Some, None, Result, Ok, Err}
+use Rattle.chip_tables.specs.declared.target.Target.{Target}
+use Rattle.chip_tables.specs.declared.target.Target.TheVariants.{F628, F877, Mega16, Interp, AnsiC}
 use Rattle.ld_base.specs.Bytes.{Held}
-use Rattle.texts.specs.Lines.{lines}
-use Rattle.texts.specs.Limits as limits
-use Rattle.texts.specs.declared.limits.TheConstants.{CODE_BYTES}
 use Rattle.ladder_tree.specs.declared.fault.ProjectFault.{ProjectFault}
 use Rattle.ladder_tree.specs.declared.names.Names.{Names}
 use Rattle.ladder_tree.specs.declared.project.Project.{Project}
@@ -11,11 +10,11 @@ use Rattle.ladder_tree.specs.Names.{names_of}
 use Rattle.ladder_trace.specs.Trace as trace
 use Rattle.ladder_trace.specs.declared.trace.Trace.{Trace}
 use Rattle.ld_text.specs.Text.{IsReadAs, text_fault, judged}
-use Rattle.interp_code.specs.Program.{IsProgram}
-use Rattle.interp_code.specs.Refused as interp
 use Rattle.interp_code.specs.declared.program.InterpProgram.{InterpProgram}
-use Rattle.ldmicro_top.specs.Verdict.{verdict}
+use Rattle.ldmicro_top.specs.Code.{IsCode, IsCodeRefusedAt}
+use Rattle.ldmicro_top.specs.Verdict.{verdict, code_fault}
 use Rattle.ldmicro_top.specs.Replayed.{SameNames}
+use Rattle.ldmicro_top.specs.Replays.{Replays}
 use Rattle.ldmicro_top.specs.declared.status.InputFault.TheVariants as input
 use Rattle.ldmicro_top.specs.declared.status.Status.{Status}
 use Rattle.ldmicro_top.specs.declared.status.Status.TheVariants as status
@@ -40,34 +39,57 @@ abbrev pub HeldAnswers : (List ℕ → Status → Type 0) → Option (List ℕ) 
 HeldAnswers go_on None answer = answer ≡ status.ReadFault
 HeldAnswers go_on (Some text) answer = go_on text answer
 
-abbrev pub answer_of : Result Trace ℕ → Status
-answer_of (Ok t) = status.Ok
-answer_of (Err line) = status.BadInput (input.Trace line)
+-- the code may be more than a chip has room for
+abbrev pub answer_of_code : Option ProjectFault → Status
+answer_of_code None = status.Ok
+answer_of_code (Some fault) = status.Refused fault
 
--- a trace is refused at a line, or all is well
-abbrev pub TraceAnswers : Names → List ℕ → Status → Type 0
-TraceAnswers n text answer = answer ≡ answer_of (trace.verdict n text)
+abbrev pub CompileAnswers : Project → Status → Type 0
+CompileAnswers p answer = answer ≡ answer_of_code (code_fault p)
 
--- a text that says a program
-abbrev pub IsCode : List ℕ → InterpProgram → Type 0
-IsCode text program = IsProgram (lines text) program × (length text ≤ CODE_BYTES)
+abbrev pub AnswersOf : (Trace → Status → Type 0) → Result Trace ℕ → Status → Type 0
+AnswersOf go_on (Ok t) answer = go_on t answer
+AnswersOf go_on (Err line) answer = answer ≡ status.BadInput (input.Trace line)
 
-abbrev pub IsCodeRefusedAt : List ℕ → ℕ → Type 0
-IsCodeRefusedAt text line = interp.IsRefusedAt (limits.is_over CODE_BYTES text) (lines (limits.judged CODE_BYTES text)) line
+-- a trace is refused at a line, or what is asked of it goes on
+abbrev pub TraceAnswers : Names → (Trace → Status → Type 0) → List ℕ → Status → Type 0
+TraceAnswers n go_on text answer = AnswersOf go_on (trace.verdict n text) answer
 
--- A text is refused at a line, or says a program with other names than the project's, which is told with the line `code`, or goes on.
+-- An interpretable text is refused at a line, or says a program with other names than the project's, which is told with the line `code`, or goes on.
 abbrev pub CodeAnswers : Names → (Status → Type 0) → List ℕ → Status → Type 0
 CodeAnswers n go_on text answer =
     ((program : InterpProgram) × IsCode text program
     × ((SameNames n program.names × go_on answer) ⊎ ((SameNames n program.names → ⊥) × (answer ≡ status.BadInput (input.OtherProject program.code_line)))))
     ⊎ ((line : ℕ) × IsCodeRefusedAt text line × (answer ≡ status.BadInput (input.Interp line)))
 
--- files are asked for in order: the source, the code, the trace
+-- what the file that is run answers, by the project's target; of a target that is not built nothing is
+abbrev pub FileAnswersOn : Target → Names → (Status → Type 0) → List ℕ → Status → Type 0
+FileAnswersOn F628 n go_on file answer = ⊥
+FileAnswersOn F877 n go_on file answer = ⊥
+FileAnswersOn Mega16 n go_on file answer = ⊥
+FileAnswersOn Interp n go_on file answer = CodeAnswers n go_on file answer
+FileAnswersOn AnsiC n go_on file answer = ⊥
+
+abbrev pub FileAnswers : Project → (Status → Type 0) → List ℕ → Status → Type 0
+FileAnswers p go_on file answer = FileAnswersOn p.target (names_of p.rungs) go_on file answer
+
+-- the answer is how the run ends
+abbrev pub RunAnswers : Project → List ℕ → Trace → Status → Type 0
+RunAnswers p file t answer = (printed : List ℕ) × Replays p file t printed answer
+
+abbrev pub SimulateAnswers : Held → List ℕ → Project → Status → Type 0
+SimulateAnswers held trace p = HeldAnswers (TraceAnswers (names_of p.rungs) (λ t answer. answer ≡ status.Ok)) (held trace)
+
+abbrev pub ReplayAnswers : Held → List ℕ → List ℕ → Project → Status → Type 0
+ReplayAnswers held file trace p =
+    HeldAnswers (λ code. FileAnswers p (HeldAnswers (TraceAnswers (names_of p.rungs) (RunAnswers p code)) (held trace)) code) (held file)
+
+-- Files are asked for in order: the source, the file that is run, the trace. Behind them a compilation answers whether there is room for the
+-- code, and a run how it ends.
 abbrev pub Expected : Command → Held → Status → Type 0
-Expected (Compile source dest) held answer = HeldAnswers (ProjectAnswers (λ p a. a ≡ status.Ok)) (held source) answer
-Expected (Simulate source trace) held answer = HeldAnswers (ProjectAnswers (λ p. HeldAnswers (TraceAnswers (names_of p.rungs)) (held trace))) (held source) answer
-Expected (Replay source file trace) held answer =
-    HeldAnswers (ProjectAnswers (λ p. HeldAnswers (CodeAnswers (names_of p.rungs) (HeldAnswers (TraceAnswers (names_of p.rungs)) (held trace))) (held file))) (held source) answer
+Expected (Compile source dest) held answer = HeldAnswers (ProjectAnswers CompileAnswers) (held source) answer
+Expected (Simulate source trace) held answer = HeldAnswers (ProjectAnswers (SimulateAnswers held trace)) (held source) answer
+Expected (Replay source file trace) held answer = HeldAnswers (ProjectAnswers (ReplayAnswers held file trace)) (held source) answer
 Expected Other held answer = answer ≡ status.Usage
 
 -- an answer that depends on more than the words and what the names hold
@@ -75,10 +97,33 @@ abbrev pub is_fault : Status → Bool
 is_fault status.ReadFault = true
 is_fault status.WriteFault = true
 is_fault status.NoMemory = true
-is_fault _ = false
+is_fault status.Ok = false
+is_fault status.Usage = false
+is_fault (status.Refused fault) = false
+is_fault (status.BadInput fault) = false
+is_fault (status.NoCycleEnd cycle) = false
+is_fault (status.Stuck cycle at) = false
 
 -- an answer after which a part may be written
 abbrev pub is_cut : Status → Bool
 is_cut status.WriteFault = true
 is_cut status.NoMemory = true
-is_cut _ = false
+is_cut status.Ok = false
+is_cut status.Usage = false
+is_cut (status.Refused fault) = false
+is_cut status.ReadFault = false
+is_cut (status.BadInput fault) = false
+is_cut (status.NoCycleEnd cycle) = false
+is_cut (status.Stuck cycle at) = false
+
+-- an answer that ends what was asked for, so that its lines stand before it
+abbrev pub is_end : Status → Bool
+is_end status.Ok = true
+is_end status.Usage = false
+is_end (status.Refused fault) = false
+is_end status.ReadFault = false
+is_end status.WriteFault = false
+is_end status.NoMemory = false
+is_end (status.BadInput fault) = false
+is_end (status.NoCycleEnd cycle) = true
+is_end (status.Stuck cycle at) = true

@@ -2,8 +2,11 @@ pub mod StatusLine
 pub mod Verdict
 pub mod Report
 pub mod Carries
+pub mod Code
+pub mod Replays
 pub mod Command
 pub mod Expected
+pub mod World
 pub mod Ran
 pub mod Steps
 pub mod Judged

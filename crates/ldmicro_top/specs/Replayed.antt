@@ -3,7 +3,7 @@ use Rattle.std.specs.Prelude.{◌≡◌, ℕ, List}
 use Rattle.ladder_tree.specs.Names.{names_of}
 use Rattle.ladder_tree.specs.declared.names.Names.{Names}
 use Rattle.ladder_tree.specs.declared.project.Project.{Project}
-use Rattle.ladder_trace.specs.Simulated.{shows_duty}
+use Rattle.ladder_trace.specs.Simulated.{duty_shown}
 use Rattle.ladder_trace.specs.declared.trace.Trace.{Trace}
 use Rattle.int_code.specs.declared.op.IntProgram.{IntProgram}
 use Rattle.trace_run.specs.Run.{run_lines}
@@ -17,6 +17,6 @@ pub record SameNames (n m : Names) : Type 0 where
   pub relays : m.relays ≡ n.relays
   pub persistent : m.persistent ≡ n.persistent
 
--- The line of each cycle, as the program does it. The duty is shown where the project has a SET_PWM.
+-- The line of each cycle, as the program does it, with the duty as it is shown of the project.
 abbrev pub replayed : Project → IntProgram → Trace → List ℕ
-replayed p program trace = run_lines (shows_duty p) (names_of p.rungs) program trace
+replayed p program trace = run_lines (duty_shown p) (names_of p.rungs) program trace

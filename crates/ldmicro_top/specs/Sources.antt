@@ -7,7 +7,8 @@ use Rattle.ladder_trace.specs.Trace.{verdict}
 use Rattle.ladder_trace.specs.declared.trace.Trace.{Trace}
 use Rattle.int_code.specs.declared.op.IntProgram.{IntProgram}
 use Rattle.interp_code.specs.declared.program.InterpProgram.{InterpProgram}
-use Rattle.ldmicro_top.specs.Expected.{IsAccepted, IsCode}
+use Rattle.ldmicro_top.specs.Code.{IsCode}
+use Rattle.ldmicro_top.specs.Expected.{IsAccepted}
 use Rattle.ldmicro_top.specs.Replayed.{SameNames}
 
 -- the text of a project that keeps the rules and fits

@@ -1,6 +1,9 @@
 -- The exit status and the line of each way that a run ends.
-use Rattle.std.specs.Prelude.{ℕ, List, [], ◌++◌, codes}
+use Rattle.std.specs.Prelude.{ℕ, ◌/◌, ◌%◌, List, [], ◌∷◌, ◌++◌, codes}
 use Rattle.std.specs.Fmt.{decimal}
+use Rattle.hex.specs.Hex.{encode_upper}
+use Rattle.chip_tables.specs.declared.outside.StuckCause.{StuckCause}
+use Rattle.chip_tables.specs.declared.outside.StuckCause.TheVariants as cause
 use Rattle.ladder_tree.specs.Fault.{number_of, name_of}
 use Rattle.ladder_tree.specs.declared.fault.ProjectFault.{ProjectFault}
 use Rattle.ladder_tree.specs.declared.fault.ProjectFault.TheVariants.{NotProject, BadLine, LineTooLong, TooDeep, TooMany, Unclosed, UnknownChip, NumberRange, NotRightmost, WrongKind, TimerTwice, TimerShort, TimerLong, NoAdc, NoPwm, PwmTwoRates, PinUnassigned, PinTwice, NoSuchPin, PinTaken, CycleRange, BaudRange, PwmRange, RamFull, EepromFull, CodeFull, NotBuilt}
@@ -19,6 +22,8 @@ code_of status.ReadFault = 3
 code_of status.WriteFault = 4
 code_of status.NoMemory = 5
 code_of (status.BadInput fault) = 6
+code_of (status.NoCycleEnd cycle) = 7
+code_of (status.Stuck cycle s) = 8
 
 abbrev pub place_of : ProjectFault → Place
 place_of (NotProject line) = at.Line line
@@ -61,12 +66,27 @@ input_text (input.Interp line) = codes "file line " ++ decimal line
 input_text (input.OtherProject line) = codes "file line " ++ (decimal line ++ codes " other project")
 input_text (input.Trace line) = codes "trace line " ++ decimal line
 
+-- the lowest 16 bits as four upper-case hexadecimal digits
+abbrev pub four_digits : ℕ → List ℕ
+four_digits n = encode_upper (n / 256 % 256 ∷ n % 256 ∷ [])
+
+-- why code has no step
+abbrev pub cause_name : StuckCause → List ℕ
+cause_name cause.Undefined = codes "Undefined"
+cause_name cause.StackDepth = codes "StackDepth"
+cause_name cause.PastFlash = codes "PastFlash"
+
 -- the line that a status prints; after Ok the report or the lines of a run are printed, and after two faults nothing is
 abbrev pub line_of : Status → List ℕ
 line_of status.Ok = []
 line_of status.Usage = codes "usage: ldmicro /c source dest | /s source trace | /r source file trace | /g number dest\n"
-line_of (status.Refused fault) = codes "refused " ++ (decimal (number_of fault) ++ (codes " " ++ (name_of fault ++ (codes " " ++ (place_text (place_of fault) ++ codes "\n")))))
+line_of (status.Refused fault) =
+    codes "refused " ++ (decimal (number_of fault) ++ (codes " " ++ (name_of fault ++ (codes " " ++ (place_text (place_of fault) ++ codes "\n")))))
 line_of status.ReadFault = codes "read fault\n"
 line_of status.WriteFault = []
 line_of status.NoMemory = []
 line_of (status.BadInput fault) = codes "bad input " ++ (input_text fault ++ codes "\n")
+line_of (status.NoCycleEnd cycle) = codes "no cycle end in cycle " ++ (decimal cycle ++ codes "\n")
+line_of (status.Stuck cycle s) =
+    codes "stuck in cycle " ++ (decimal cycle ++ (codes " at " ++ (four_digits s.place
+    ++ (codes " word " ++ (four_digits s.word ++ (codes " " ++ (cause_name s.cause ++ codes "\n")))))))

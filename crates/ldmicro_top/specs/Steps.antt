@@ -1,5 +1,5 @@
 -- What the steps of a run leave.
-use Rattle.std.specs.Prelude.{◌≡◌, ◌≢◌, ◌⊎◌, ℕ, ◌≤◌, Bool, true, false, List, ◌++◌}
+use Rattle.std.specs.Prelude.{◌≡◌, ◌⊎◌, ℕ, ◌≤◌, Bool, true, false, List, ◌++◌}
 use Rattle.ld_base.specs.Counts.{Counts, Rose}
 use Rattle.ld_base.specs.Bytes.{Held, SameHeld, HoldsThen}
 use Rattle.ld_base.specs.declared.files.FileFault.{FileFault}
@@ -9,11 +9,11 @@ use Rattle.ld_base.specs.declared.files.OpenFault.TheVariants as opening
 use Rattle.project_file.specs.declared.fault.SourceFault.{SourceFault}
 use Rattle.project_file.specs.declared.fault.SourceFault.TheVariants as source
 use Rattle.ldmicro_top.specs.declared.status.Status.{Status}
-use Rattle.ldmicro_top.specs.declared.status.Status.TheVariants.{Ok, Refused, ReadFault, WriteFault, NoMemory}
+use Rattle.ldmicro_top.specs.declared.status.Status.TheVariants.{Refused, ReadFault, WriteFault, NoMemory}
 use Rattle.ladder_trace.specs.Trace.{IsTraceOf}
-use Rattle.trace_run.specs.Run.{IsProgramOf, run_lines}
+use Rattle.trace_run.specs.Run.{IsProgramOf, sim_lines}
 use Rattle.ldmicro_top.specs.declared.traced.TraceRun.{TraceRun}
-use Rattle.ldmicro_top.specs.Expected.{is_fault}
+use Rattle.ldmicro_top.specs.Expected.{is_fault, is_end}
 use Rattle.ldmicro_top.specs.Ran.{IsFrontOf}
 
 -- the line of the wanted status was written, or a front of it and the status says why
@@ -32,16 +32,16 @@ pub record OnlyReads (told : Bool) (old new : Counts) (held held' : Held) : Type
 -- why a step ends the run: memory was wanting, a read failed, a name holds nothing, or what it holds has this answer
 pub record Declined (told : Bool) (Answers : Status → Type 0) (old new : Counts) (status : Status) : Type 0 where
   pub why : (status ≡ NoMemory) ⊎ (((status ≡ ReadFault) × (Rose old.reads new.reads ⊎ (Rose old.absences new.absences × (told ≡ true → Answers ReadFault))))
-      ⊎ ((is_fault status ≡ false) × (status ≢ Ok) × (told ≡ true → Answers status)))
+      ⊎ ((is_fault status ≡ false) × (is_end status ≡ false) × (told ≡ true → Answers status)))
 
 -- a run over a trace that can begin
 pub record IsReady (r : TraceRun) : Type 0 where
-  pub program : IsProgramOf r.legal.names r.program
+  pub program : IsProgramOf r.legal.names r.sim.program
   pub given : IsTraceOf r.legal.names r.trace
 
 -- the lines that a run over a trace writes
 abbrev pub lines_of_run : TraceRun → List ℕ
-lines_of_run r = run_lines r.shows_duty r.legal.names r.program r.trace
+lines_of_run r = sim_lines r.duty r.legal.names r.sim r.trace
 
 -- why bytes were not written
 pub record Unwritten (told : Bool) (dest code : List ℕ) (old new : ℕ) (held held' : Held) (status : Status) : Type 0 where

@@ -1,12 +1,14 @@
--- The verdict on a project: the first rule that it breaks, or else the memory that it does not fit.
-use Rattle.std.specs.Prelude.{◌+◌, length, Option}
+-- The verdict on a project: the first rule that it breaks, or else the memory that it does not fit; and that on its code.
+use Rattle.std.specs.Prelude.{ℕ, ◌+◌, length, nat_lt, Option, None, Some, if◌then◌else◌}
 use Rattle.std.specs.Option.{option_map, option_or}
+use Rattle.chip_tables.specs.Memory.{flash_size}
 use Rattle.chip_tables.specs.declared.target.Target.{Target}
 use Rattle.ladder_tree.specs.Names.{names_of}
 use Rattle.ladder_tree.specs.declared.fault.ProjectFault.{ProjectFault}
-use Rattle.ladder_tree.specs.declared.fault.ProjectFault.TheVariants.{RamFull, EepromFull}
+use Rattle.ladder_tree.specs.declared.fault.ProjectFault.TheVariants.{RamFull, EepromFull, CodeFull}
 use Rattle.ladder_tree.specs.declared.names.Names.{Names}
 use Rattle.ladder_tree.specs.declared.project.Project.{Project}
+use Rattle.ladder_rules.specs.Needs.{word_need}
 use Rattle.ladder_rules.specs.Verdict.{rule}
 use Rattle.mem_plan.specs.Misfit as plan
 use Rattle.mem_plan.specs.declared.fault.PlanFault.{PlanFault}
@@ -31,3 +33,11 @@ misfit target n = option_map refusal_of (plan.misfit (kept_of n) target)
 
 abbrev pub verdict : Project → Option ProjectFault
 verdict p = option_or (rule p) (misfit p.target (names_of p.rungs))
+
+abbrev pub over_flash : ℕ → Option ℕ → Option ProjectFault
+over_flash need None = None
+over_flash need (Some have) = if nat_lt have need then Some (CodeFull need have) else None
+
+-- The code that a chip has no room for. It keeps a project from being compiled, and not from being simulated or run.
+abbrev pub code_fault : Project → Option ProjectFault
+code_fault p = over_flash (word_need p) (flash_size p.target)

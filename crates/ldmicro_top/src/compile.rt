@@ -13,7 +13,7 @@ use std::alloc::{AllocError, Global};
 use texts::Text;
 
 /// What a project compiles to.
-#[derive(Debug, Drop)]
+#[derive(Drop)]
 pub struct Compiled {
     /// The interpretable text.
     pub code: Text,

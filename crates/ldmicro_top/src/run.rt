@@ -4,7 +4,8 @@ ghost use Rattle.std.specs.Prelude.{◌≡◌, ◌≤◌, true, map, IfErr, OnOk
 ghost use Rattle.std.specs.Rc.{rc_str_bytes};
 ghost use Rattle.ld_base.specs.Bytes.{HoldsThen};
 ghost use Rattle.ldmicro_top.specs.Command.{command_of, Compile, Simulate, Replay};
-ghost use Rattle.ldmicro_top.specs.Ran.{World, Ran, IsComplete};
+ghost use Rattle.ldmicro_top.specs.Ran.{Ran, IsComplete};
+ghost use Rattle.ldmicro_top.specs.World.{world};
 ghost use Rattle.ldmicro_top.specs.StatusLine.{line_of};
 ghost use Rattle.ldmicro_top.specs.Steps.{Told, Unwritten, status_of, lines_of_run, IsReady};
 
@@ -16,7 +17,7 @@ use ld_base::files::{FileFault, Files, Out};
 use ld_base::whole::{write_file, write_out};
 use std::alloc::Global;
 use std::rc::RcStr;
-use trace_run::run_trace;
+use trace_run::run_sim;
 
 /// Writes a text, and then the status stands.
 fn say<O: Out>(out: &mut O, text: &[u8], status: Status) -> Status
@@ -76,9 +77,8 @@ fn compile<F: Files, O: Out>(
     source: &str,
     dest: &str,
 ) -> Status
-    ensures { let old : World = record { counts = F.counts files.old; held = F.held files.old; faults = O.fault_count out.old; written = O.written out.old } in
-        let new : World = record { counts = F.counts files.new; held = F.held files.new; faults = O.fault_count out.new; written = O.written out.new } in
-        Ran F.tells O.tells (Compile source.now dest.now) old new result }
+    ensures { Ran F.tells O.tells (Compile source.now dest.now)
+        (world F.Files O.Out files.old out.old) (world F.Files O.Out files.new out.new) result }
 {
     let compiled = match take_compiled(alloc, files, source) {
         Ok(compiled) => compiled,
@@ -95,15 +95,8 @@ fn show<O: Out>(alloc: Global, out: &mut O, run: TraceRun) -> Status
     requires { IsReady run }
     ensures { Told O.tells (O.fault_count out.old) (O.fault_count out.new) (O.written out.old) (O.written out.new) (lines_of_run run) Status.Ok result }
 {
-    let program = run.program;
-    match run_trace(
-        alloc,
-        out,
-        run.legal.names(),
-        run.shows_duty,
-        program,
-        &run.trace,
-    ) {
+    let sim = run.sim;
+    match run_sim(alloc, out, run.legal.names(), run.duty, sim, &run.trace) {
         Ok(()) => Status::Ok,
         Err(fault) => status_of(fault),
     }
@@ -117,9 +110,8 @@ fn simulate<F: Files, O: Out>(
     source: &str,
     trace: &str,
 ) -> Status
-    ensures { let old : World = record { counts = F.counts files.old; held = F.held files.old; faults = O.fault_count out.old; written = O.written out.old } in
-        let new : World = record { counts = F.counts files.new; held = F.held files.new; faults = O.fault_count out.new; written = O.written out.new } in
-        Ran F.tells O.tells (Simulate source.now trace.now) old new result }
+    ensures { Ran F.tells O.tells (Simulate source.now trace.now)
+        (world F.Files O.Out files.old out.old) (world F.Files O.Out files.new out.new) result }
 {
     match take_simulation(alloc, files, source, trace) {
         Ok(run) => show(alloc, out, run),
@@ -136,9 +128,8 @@ fn replay<F: Files, O: Out>(
     file: &str,
     trace: &str,
 ) -> Status
-    ensures { let old : World = record { counts = F.counts files.old; held = F.held files.old; faults = O.fault_count out.old; written = O.written out.old } in
-        let new : World = record { counts = F.counts files.new; held = F.held files.new; faults = O.fault_count out.new; written = O.written out.new } in
-        Ran F.tells O.tells (Replay source.now file.now trace.now) old new result }
+    ensures { Ran F.tells O.tells (Replay source.now file.now trace.now)
+        (world F.Files O.Out files.old out.old) (world F.Files O.Out files.new out.new) result }
 {
     match take_replay(alloc, files, source, file, trace) {
         Ok(run) => show(alloc, out, run),
@@ -152,12 +143,10 @@ fn replay<F: Files, O: Out>(
 /// answered by Usage.
 #[tactic(auto, using(crate::proofs::RanLemmas::complete_of, crate::proofs::RanLemmas::useless))]
 pub fn run<F: Files, O: Out>(alloc: Global, words: &[RcStr], files: &mut F, out: &mut O) -> Status
-    ensures ran { let old : World = record { counts = F.counts files.old; held = F.held files.old; faults = O.fault_count out.old; written = O.written out.old } in
-        let new : World = record { counts = F.counts files.new; held = F.held files.new; faults = O.fault_count out.new; written = O.written out.new } in
-        Ran F.tells O.tells (command_of (map rc_str_bytes words.now)) old new result }
-    ensures complete { let old : World = record { counts = F.counts files.old; held = F.held files.old; faults = O.fault_count out.old; written = O.written out.old } in
-        let new : World = record { counts = F.counts files.new; held = F.held files.new; faults = O.fault_count out.new; written = O.written out.new } in
-        IsComplete F.tells (command_of (map rc_str_bytes words.now)) old new result }
+    ensures ran { Ran F.tells O.tells (command_of (map rc_str_bytes words.now))
+        (world F.Files O.Out files.old out.old) (world F.Files O.Out files.new out.new) result }
+    ensures complete { IsComplete F.tells (command_of (map rc_str_bytes words.now))
+        (world F.Files O.Out files.old out.old) (world F.Files O.Out files.new out.new) result }
 {
     match requested(words) {
         Request::Compile { source, dest } => compile(alloc, files, out, source, dest),

@@ -3,6 +3,7 @@
 ghost use Rattle.std.specs.Prelude.{◌≡◌, true, IfOk, IfErr, Decides};
 ghost use Rattle.ladder_trace.specs.Trace.{IsTraceOf};
 ghost use Rattle.trace_run.specs.Run.{IsProgramOf};
+ghost use Rattle.interp_code.specs.Machine.{IsRunnable};
 ghost use Rattle.ldmicro_top.specs.Expected.{HeldAnswers, ProjectAnswers, CodeAnswers, TraceAnswers, Expected};
 ghost use Rattle.ldmicro_top.specs.Command.{Simulate, Replay};
 ghost use Rattle.ldmicro_top.specs.Ran.{IsCompiled, IsSimulated, IsReplayed};
@@ -13,11 +14,10 @@ ghost use Rattle.ldmicro_top.specs.Judged.{IsJudged};
 ghost use Rattle.std.specs.String.{string_bytes};
 
 use crate::compile::{Compiled, compile_legal};
-use crate::duty::shows_duty;
 use crate::judge::judge;
 use crate::status::{InputFault, Status};
-use crate::traced::TraceRun;
-use int_code::op::IntProgram;
+use crate::traced::{TraceRun, replay, simulation};
+use interp_code::program::InterpProgram;
 use interp_code::read::{InterpError, read_interp};
 use ladder_lower::program::lower;
 use ladder_rules::Legal;
@@ -79,7 +79,7 @@ pub fn take_trace<F: Files>(
     ensures only { OnlyReads F.tells (F.counts files.old) (F.counts files.new) (F.held files.old) (F.held files.new) }
     ensures fits { IfOk result (IsTraceOf names.now) }
     ensures holds { F.tells ≡ true → IfOk result (HoldsTrace (F.held files.old) name.now names.now) }
-    ensures declined { IfErr result (Declined F.tells (HeldAnswers (TraceAnswers names.now) (F.held files.old name.now)) (F.counts files.old) (F.counts files.new)) }
+    ensures declined { IfErr result (Declined F.tells (HeldAnswers (TraceAnswers names.now (λ t a. ⊥)) (F.held files.old name.now)) (F.counts files.old) (F.counts files.new)) }
 {
     let text = match read_file(alloc, files, name, FILE_BYTES) {
         Ok(text) => text,
@@ -119,16 +119,17 @@ fn same_names(a: &Names, b: &Names) -> bool
         && same_list(&a.persistent, &b.persistent)
 }
 
-/// The program that a name holds as an interpretable text, with the names.
+/// The program with the names that a name holds as an interpretable text.
 pub fn take_code<F: Files>(
     alloc: Global,
     files: &mut F,
     name: &str,
     names: &Names,
-) -> Result<IntProgram, Status>
+) -> Result<InterpProgram, Status>
     ensures only { OnlyReads F.tells (F.counts files.old) (F.counts files.new) (F.held files.old) (F.held files.new) }
-    ensures fits { IfOk result (IsProgramOf names.now) }
-    ensures holds { F.tells ≡ true → IfOk result (HoldsCode (F.held files.old) name.now names.now) }
+    ensures runs { IfOk result IsRunnable }
+    ensures fits { IfOk result (λ said. IsProgramOf names.now said.program) }
+    ensures holds { F.tells ≡ true → IfOk result (λ said. HoldsCode (F.held files.old) name.now names.now said.program) }
     ensures declined { IfErr result (Declined F.tells (HeldAnswers (CodeAnswers names.now (λ a. ⊥)) (F.held files.old name.now)) (F.counts files.old) (F.counts files.new)) }
 {
     let text = match read_file(alloc, files, name, CODE_BYTES) {
@@ -141,7 +142,7 @@ pub fn take_code<F: Files>(
                 let line = said.code_line;
                 return Err(Status::BadInput(InputFault::OtherProject { line }));
             }
-            Ok(said.program)
+            Ok(said)
         }
         Err(InterpError::Fault(fault)) => {
             let line = fault.line;
@@ -186,13 +187,10 @@ pub fn take_simulation<F: Files>(
         Err(_) => return Err(Status::NoMemory),
     };
     let trace = take_trace(alloc, files, trace, legal.names())?;
-    let shows_duty = shows_duty(legal.project());
-    Ok(TraceRun {
-        legal,
-        program,
-        shows_duty,
-        trace,
-    })
+    match simulation(alloc, legal, program, trace) {
+        Ok(run) => Ok(run),
+        Err(_) => Err(Status::NoMemory),
+    }
 }
 
 /// The run of a file of a source's code over a trace. The file is judged before the trace is opened.
@@ -205,17 +203,14 @@ pub fn take_replay<F: Files>(
 ) -> Result<TraceRun, Status>
     ensures only { OnlyReads F.tells (F.counts files.old) (F.counts files.new) (F.held files.old) (F.held files.new) }
     ensures ready { IfOk result IsReady }
-    ensures replayed { F.tells ≡ true → IfOk result (λ r. IsReplayed source.now file.now trace.now (F.held files.old) (lines_of_run r)) }
+    ensures replayed { F.tells ≡ true → IfOk result (λ r. IsReplayed source.now file.now trace.now (F.held files.old) (lines_of_run r) Status.Ok) }
     ensures declined { IfErr result (Declined F.tells (Expected (Replay source.now file.now trace.now) (F.held files.old)) (F.counts files.old) (F.counts files.new)) }
 {
     let legal = take_project(alloc, files, source)?;
-    let program = take_code(alloc, files, file, legal.names())?;
+    let said = take_code(alloc, files, file, legal.names())?;
     let trace = take_trace(alloc, files, trace, legal.names())?;
-    let shows_duty = shows_duty(legal.project());
-    Ok(TraceRun {
-        legal,
-        program,
-        shows_duty,
-        trace,
-    })
+    match replay(alloc, legal, said, trace) {
+        Ok(run) => Ok(run),
+        Err(_) => Err(Status::NoMemory),
+    }
 }

@@ -2,8 +2,9 @@
 
 ghost use Rattle.std.specs.Prelude.{◌≡◌, IfOk};
 ghost use Rattle.std.specs.String.{string_bytes};
-ghost use Rattle.ldmicro_top.specs.StatusLine.{code_of, line_of, place_of};
+ghost use Rattle.ldmicro_top.specs.StatusLine.{code_of, line_of, place_of, four_digits, cause_name};
 
+use chip_tables::{StuckAt, StuckCause};
 use ladder_tree::fault::ProjectFault;
 use std::alloc::{AllocError, Global};
 use std::fmt;
@@ -25,6 +26,10 @@ pub enum Status {
     NoMemory,
     /// A file that is run, or the trace, is refused.
     BadInput(InputFault),
+    /// The code that is run comes to no end of the cycle of this number, which is 0 in front of the first reading.
+    NoCycleEnd { cycle: u32 },
+    /// The code that is run has no step at a place, in the cycle of this number.
+    Stuck { cycle: u32, at: StuckAt },
 }
 
 /// What is wrong with a file that is run, or with the trace.
@@ -54,7 +59,7 @@ impl fmt::Display for InputFault {
 }
 
 impl Status {
-    /// The exit status of the program: 0 to 6, in the order of the variants.
+    /// The exit status of the program: 0 to 8, in the order of the variants.
     pub fn code(&self) -> u8
         ensures { result ≡ code_of self.now }
     {
@@ -66,6 +71,8 @@ impl Status {
             Status::WriteFault => 4,
             Status::NoMemory => 5,
             Status::BadInput(_) => 6,
+            Status::NoCycleEnd { .. } => 7,
+            Status::Stuck { .. } => 8,
         }
     }
 }
@@ -147,6 +154,8 @@ pub fn status_line(alloc: Global, status: Status) -> Result<String, AllocError>
         Status::ReadFault => String::from_str(alloc, "read fault\n"),
         Status::Refused(fault) => refusal(alloc, fault),
         Status::BadInput(fault) => format!(in alloc; "bad input {fault}\n"),
+        Status::NoCycleEnd { cycle } => format!(in alloc; "no cycle end in cycle {cycle}\n"),
+        Status::Stuck { cycle, at } => stuck(alloc, cycle, at),
     }
 }
 
@@ -158,4 +167,33 @@ fn refusal(alloc: Global, fault: ProjectFault) -> Result<String, AllocError>
     let name = fault.name();
     let place = place_of(fault);
     format!(in alloc; "refused {number} {name} {place}\n")
+}
+
+/// The line of code that has no step.
+fn stuck(alloc: Global, cycle: u32, at: StuckAt) -> Result<String, AllocError>
+    ensures { IfOk result (λ line. string_bytes line ≡ line_of (Status.Stuck cycle at)) }
+{
+    let place = four_digits(alloc, at.place)?;
+    let word = four_digits(alloc, u32::from(at.word))?;
+    let cause = cause_name(at.cause);
+    format!(in alloc; "stuck in cycle {cycle} at {place} word {word} {cause}\n")
+}
+
+/// The lowest 16 bits as four upper-case hexadecimal digits.
+fn four_digits(alloc: Global, n: u32) -> Result<String, AllocError>
+    ensures { IfOk result (λ digits. string_bytes digits ≡ four_digits n) }
+{
+    let bytes = [(n / 256 % 256) as u8, (n % 256) as u8];
+    hex::encode_upper(alloc, &bytes)
+}
+
+/// The name of the cause in status lines.
+fn cause_name(cause: StuckCause) -> &'static str
+    ensures { result.now ≡ cause_name cause }
+{
+    match cause {
+        StuckCause::Undefined => "Undefined",
+        StuckCause::StackDepth => "StackDepth",
+        StuckCause::PastFlash => "PastFlash",
+    }
 }

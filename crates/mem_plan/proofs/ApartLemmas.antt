@@ -39,7 +39,8 @@ step_past k n e =
 half_past : (i k half n : ℕ) → k ≡ 2 * i → n ≡ 2 * half → k - n ≡ 2 * (i - half)
 half_past i k half n even whole = omega arith
 
-paired_by : (first n half : ℕ) (rest : ℕ → Option ℕ) (i k a : ℕ) (b : Bool) → nat_lt k n ≡ b → n ≡ 2 * half → IsPaired rest → k ≡ 2 * i → cond b (Some (first + k)) (rest (k - n)) ≡ Some a → behind first n rest (k + 1) ≡ Some (a + 1)
+paired_by : (first n half : ℕ) (rest : ℕ → Option ℕ) (i k a : ℕ) (b : Bool) → nat_lt k n ≡ b → n ≡ 2 * half → IsPaired rest → k ≡ 2 * i →
+    cond b (Some (first + k)) (rest (k - n)) ≡ Some a → behind first n rest (k + 1) ≡ Some (a + 1)
 paired_by first n half rest i k a true e whole pairs even h =
     let same : first + k ≡ a = cc in
     let next : first + (k + 1) ≡ a + 1 = omega arith in

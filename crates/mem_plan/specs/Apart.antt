@@ -12,5 +12,6 @@ pub record AreApart (target : Target) (variables : ℕ) : Type 0 where
   -- the two bytes of a variable follow one another, so it stands in one range of RAM
   pub whole : (i low : ℕ) → low_byte target i ≡ Some low → high_byte target i ≡ Some (low + 1)
   pub cells : (i j address : ℕ) → Takes target i address → Takes target j address → i ≡ j
-  pub bits : (j k address : ℕ) → byte_of_bit target variables j ≡ Some address → byte_of_bit target variables k ≡ Some address → bit_in_byte j ≡ bit_in_byte k → j ≡ k
+  pub bits : (j k address : ℕ) → byte_of_bit target variables j ≡ Some address → byte_of_bit target variables k ≡ Some address →
+      bit_in_byte j ≡ bit_in_byte k → j ≡ k
   pub cells_and_bits : (i j address : ℕ) → i < variables → Takes target i address → byte_of_bit target variables j ≡ Some address → ⊥

@@ -4,6 +4,8 @@ use crate::program_texts::{sizes, verdict, written};
 use crate::runs::{cycles, lines};
 use crate::traces::{saved, steps};
 use case_script::{Answers, Command};
+use chip_tables::PwmSetting;
+use ladder_trace::duty::DutyShown;
 use std::alloc::{AllocError, Global};
 
 /// What stands around the texts that follow, the text of the program that runs, and how it runs.
@@ -14,7 +16,7 @@ pub struct Programs {
     program: Vec<u8>,
     /// Which write of a run fails, from 1; 0 is none.
     failing: u64,
-    shows_duty: bool,
+    duty: DutyShown,
 }
 
 impl Programs {
@@ -24,7 +26,7 @@ impl Programs {
             back: Vec::new(alloc),
             program: Vec::new(alloc),
             failing: 0,
-            shows_duty: false,
+            duty: DutyShown::Hidden,
         }
     }
 
@@ -64,7 +66,7 @@ impl Programs {
             "steps" => steps(alloc, program, trace)?,
             "eeprom" => saved(alloc, program, trace)?,
             "cycles" => cycles(alloc, program, trace)?,
-            "lines" => lines(alloc, program, trace, self.shows_duty, self.failing)?,
+            "lines" => lines(alloc, program, trace, self.duty, self.failing)?,
             _ => return Ok(None),
         }))
     }
@@ -89,6 +91,17 @@ impl Programs {
     }
 }
 
+/// How a duty is shown by a word: not, as it is, or on a chip whose duty register has a value at 100 percent.
+fn duty_of(word: &str) -> DutyShown {
+    if word == "shown" {
+        return DutyShown::Exact;
+    }
+    match word.parse::<u16>() {
+        Ok(top) => DutyShown::Least(PwmSetting { control: 0, top }),
+        Err(_) => DutyShown::Hidden,
+    }
+}
+
 impl Answers for Programs {
     fn answer(&mut self, alloc: Global, command: &Command<'_>) -> Result<String, AllocError> {
         let text = command.text.as_slice();
@@ -97,7 +110,7 @@ impl Answers for Programs {
             "back" => self.back = Vec::from_slice(alloc, text)?,
             "program" => self.program = Vec::from_slice(alloc, text)?,
             "failing" => self.failing = command.argument.parse::<u64>().unwrap_or(0),
-            "duty" => self.shows_duty = command.argument == "shown",
+            "duty" => self.duty = duty_of(command.argument),
             _ => {
                 if let Some(answer) = self.asked_of_text(alloc, command)? {
                     return Ok(answer);

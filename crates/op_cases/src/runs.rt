@@ -6,16 +6,18 @@ use crate::traces::trace_refusal;
 use case_script::push_lines;
 use int_code::op::IntProgram;
 use int_code::well_formed::well_formed;
+use int_sim::Sim;
 use interp_code::machine::Interp;
 use interp_code::read::read_interp;
 use ladder_meaning::reading::{Reading, View};
+use ladder_trace::duty::DutyShown;
 use ladder_trace::shown::shown_line;
 use ladder_trace::trace::{Trace, read_trace};
 use ladder_tree::names::Names;
 use ld_base::files::FileFault;
 use ld_base::mem_out::MemOut;
 use std::alloc::{AllocError, Global};
-use trace_run::run_trace;
+use trace_run::{eeprom, run_sim};
 
 /// The lines that the machine of a program's text shows over a trace, each behind the number of operations that its cycle executed.
 pub fn cycles(alloc: Global, program: &[u8], trace: &[u8]) -> Result<String, AllocError> {
@@ -27,7 +29,7 @@ pub fn cycles(alloc: Global, program: &[u8], trace: &[u8]) -> Result<String, All
         Ok(trace) => trace,
         Err(e) => return trace_refusal(alloc, e),
     };
-    let mut machine = Interp::new(alloc, said, &eeprom_of(&trace))?;
+    let mut machine = Interp::new(alloc, said, &eeprom(&trace))?;
     let mut shown = String::new(alloc);
     let mut number = 0u32;
     for step in trace.steps.as_slice() {
@@ -37,15 +39,6 @@ pub fn cycles(alloc: Global, program: &[u8], trace: &[u8]) -> Result<String, All
         }
     }
     Ok(shown)
-}
-
-/// The bytes of the EEPROM.
-fn eeprom_of(trace: &Trace) -> [u8; 512] {
-    let mut eeprom = [0xff; 512];
-    for (byte, given) in eeprom.iter_mut().zip(trace.eeprom.as_slice()) {
-        *byte = *given;
-    }
-    eeprom
 }
 
 /// Runs a cycle, and appends what it shows.
@@ -106,7 +99,7 @@ pub fn lines(
     alloc: Global,
     program: &[u8],
     trace: &[u8],
-    shows_duty: bool,
+    duty: DutyShown,
     failing: u64,
 ) -> Result<String, AllocError> {
     let said = match read_interp(alloc, program) {
@@ -124,7 +117,8 @@ pub fn lines(
     }
     let mut out = MemOut::new(alloc);
     out.fail_at(failing)?;
-    let end = run_trace(alloc, &mut out, &names, shows_duty, program, &trace);
+    let sim = Sim::new(alloc, program, &eeprom(&trace))?;
+    let end = run_sim(alloc, &mut out, &names, duty, sim, &trace);
     let mut shown = String::new(alloc);
     push_lines(&mut shown, out.bytes())?;
     match end {

@@ -18,7 +18,9 @@ pub fed_over : (most : ℕ) (text left all : List ℕ) → all ≡ text ++ left 
 fed_over most text left all h long = rw h (sym (take_at text left (most + 1) long))
 
 -- a text that is refused early is refused whatever follows
-pub fed_refused : (T : Type 0) (told : Bool) (all text piece : List ℕ) (e : TextError) → (told ≡ true → (more : List ℕ) × (all ≡ (text ++ piece) ++ more)) → length (text ++ piece) ≤ FILE_BYTES + 1
+pub fed_refused : (T : Type 0) (told : Bool) (all text piece : List ℕ) (e : TextError) → (told ≡ true → (more : List ℕ) × (all ≡ (text ++ piece) ++ more)) →
+    length (text ++ piece) ≤ FILE_BYTES + 1
     → IsCause (early_fault (text ++ piece)) e → IfRefused {T = T} (Err (judged_so e)) (λ fault. told ≡ true → text_fault (judged all) ≡ Some fault)
-fed_refused T told all text piece (Refused f) whole short cause = λ y. let w = whole y in subst (λ (x : List ℕ). text_fault (judged x) ≡ Some f) (sym w.1) (early_stays_judged (text ++ piece) w.0 f short cause)
+fed_refused T told all text piece (Refused f) whole short cause =
+    λ y. let w = whole y in subst (λ (x : List ℕ). text_fault (judged x) ≡ Some f) (sym w.1) (early_stays_judged (text ++ piece) w.0 f short cause)
 fed_refused T told all text piece (Memory e) whole short cause = tt

@@ -3,13 +3,14 @@
 -- A machine takes deterministic steps. Some of its states ask the outside for something: whether a device is ready, or whether the cycle timer
 -- has come to its end, which brings the reading of a new cycle. A drive says what the outside does: a list of answers, each ready or not, of which
 -- every asking step takes the next one, and a list of readings, of which a step takes the next one where it asks for a reading and is answered
--- that it is ready. A step that asks for nothing, or is answered that nothing is ready, sees no reading. A run ends where the drive has no
+-- that it is ready. A step that asks for nothing, or is answered that nothing is ready, sees the reading that shows nothing. A run ends where the drive has no
 -- answer or no reading left for a step that takes one.
 --
 -- Segment 0 is what runs before the first reading is taken. Segment k begins with the step that takes reading k, and lasts up to the step that
 -- takes the next one: it is cycle k, with the wait for the reading after it.
 use Rattle.std.specs.Prelude.{◌≡◌, ℕ, zero, suc, ◌+◌, List, [], ◌∷◌, ◌++◌, Option, Some, None, Bool, true, false}
 use Rattle.chip_tables.specs.declared.outside.PinReading.{PinReading}
+use Rattle.chip_tables.specs.Outside.{no_reading}
 use Rattle.chip_tables.specs.declared.outside.Poll.{Poll}
 use Rattle.chip_tables.specs.declared.outside.Poll.TheVariants.{NoPoll, CycleReady, CycleNotReady, CycleStill, DeviceNotReady}
 use Rattle.runs.specs.declared.ask.Ask.{Ask}
@@ -25,17 +26,6 @@ pub record Went (M : Type 0) : Type 0 where
 -- A step, by whether the outside is ready and by the reading that it then brings. None: there is no step.
 abbrev pub Stepper : Type 0 → Type 0
 Stepper M = M → Bool → PinReading → Option (Went M)
-
--- The reading that a step sees which takes none: all levels, values and flags 0.
-abbrev pub no_reading : PinReading
-no_reading =
-    record {
-      levels = 0 ∷ 0 ∷ 0 ∷ 0 ∷ 0 ∷ [];
-      adc = 0 ∷ 0 ∷ 0 ∷ 0 ∷ 0 ∷ 0 ∷ 0 ∷ 0 ∷ [];
-      rx = None;
-      tx_busy = false;
-      ee_busy = false;
-    }
 
 -- a step that finds a device not ready asked the device
 abbrev pub device_asked : Poll → Ask

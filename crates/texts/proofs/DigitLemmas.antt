@@ -16,7 +16,8 @@ all_digits most (c ∷ cs) some = refl
 front : (ds : List ℕ) (i c : ℕ) → i < length ds → c ≡ get_or ds i 0 → drop i ds ≡ c ∷ drop (i + 1) ds
 front ds i c lt is = rw add-one (drop-cons ds i 0 lt ∙ ap (λ x. x ∷ drop (suc i) ds) (sym is))
 
-pub digit_more : (most v : ℕ) (ds : List ℕ) (i c : ℕ) → i < length ds → c ≡ get_or ds i 0 → is_digit c ≡ true → rest_to most (10 * v + (c - 48)) (drop (i + 1) ds) ≡ rest_to most v (drop i ds)
+pub digit_more : (most v : ℕ) (ds : List ℕ) (i c : ℕ) → i < length ds → c ≡ get_or ds i 0 → is_digit c ≡ true →
+    rest_to most (10 * v + (c - 48)) (drop (i + 1) ds) ≡ rest_to most v (drop i ds)
 digit_more most v ds i c lt is d = rw (front ds i c lt is, d) refl
 
 pub no_digit : (most v : ℕ) (ds : List ℕ) (i c : ℕ) → i < length ds → c ≡ get_or ds i 0 → is_digit c ≡ false → rest_to most v (drop i ds) ≡ None

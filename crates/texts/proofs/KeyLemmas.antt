@@ -16,7 +16,8 @@ among x (k ∷ ks) = ap (λ b. bytes_eq x k.now || b) (among x ks)
 pub texts-push : (ks : List (Bor (List ℕ))) (k : Bor (List ℕ)) → texts (ks ++ k ∷ []) ≡ texts ks ++ k.now ∷ []
 texts-push ks k = map-append (λ (x : Bor (List ℕ)). x.now) ks (k ∷ [])
 
-by_test : (b : Bool) (ks : List (Bor (List ℕ))) (k : Bor (List ℕ)) → Takes (if b then None else Some (texts ks ++ k.now ∷ [])) (not b) (texts (if b then ks else ks ++ k ∷ []))
+by_test : (b : Bool) (ks : List (Bor (List ℕ))) (k : Bor (List ℕ)) →
+    Takes (if b then None else Some (texts ks ++ k.now ∷ [])) (not b) (texts (if b then ks else ks ++ k ∷ []))
 by_test true ks k = refl
 by_test false ks k = ap Some (sym (texts-push ks k))
 

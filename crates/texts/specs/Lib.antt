@@ -2,4 +2,4 @@ pub mod Lines
 pub mod Digits
 pub mod Limits
 pub mod Keys
-pub mod Refusal
+pub mod Begins

@@ -1,15 +1,17 @@
 -- The steps of a trace, one by one.
-use Rattle.std.proofs.Common.{◌≡◌, ℕ, ◌+◌, ◌-◌, ◌<◌, ◌≤◌, Bool, List, [], ◌∷◌, ◌++◌, length, get_or, drop, replicate, refl, ap, ◌∙◌, add-one, arith}
+use Rattle.std.proofs.Common.{◌≡◌, ℕ, ◌+◌, ◌-◌, ◌<◌, ◌≤◌, List, [], ◌∷◌, ◌++◌, length, get_or, drop, replicate, refl, ap, ◌∙◌, add-one, arith}
 use Rattle.std.proofs.Math.Path.{fun_ext}
 use Rattle.std.proofs.lemmas.List.{drop_more, at_drop_all, length-replicate}
 use Rattle.ladder_tree.specs.declared.names.Names.{Names}
 use Rattle.ladder_meaning.specs.declared.reading.Reading.{Reading}
+use Rattle.ladder_trace.specs.declared.duty.DutyShown.{DutyShown}
 use Rattle.ladder_trace.specs.Simulated.{readings, eeprom_of}
 use Rattle.ladder_trace.specs.declared.trace.Step.{Step}
 use Rattle.ladder_trace.specs.declared.trace.Trace.{Trace}
 use Rattle.int_code.specs.declared.op.IntProgram.{IntProgram}
 use Rattle.int_code.specs.Store.{Store, start}
-use Rattle.trace_run.specs.Run.{Point, before, behind, lines_of, run_lines}
+use Rattle.int_sim.specs.Machine.{Running, state_of}
+use Rattle.trace_run.specs.Run.{Point, before, behind, lines_of, run_lines, sim_lines}
 use Rattle.trace_run.proofs.LineLemmas.{next}
 
 -- one of the readings that are left is the next
@@ -41,11 +43,9 @@ begins : (p : IntProgram) (trace : Trace) (bytes : ℕ → ℕ) (s : Store) → 
     → record { passed = 0; store = s } ≡ before p trace
 begins p trace bytes s is same = ap (λ t. record { passed = 0; store = t }) (is ∙ ap (λ e. start p.starts e) (fun_ext same))
 
--- the lines from the start of a run are those of its trace
-pub run_lines_from : (shows_duty : Bool) (n : Names) (p q : IntProgram) (trace : Trace) (bytes : ℕ → ℕ) (s : Store) (steps : List Step)
-    → q ≡ p → s ≡ start p.starts bytes → ((k : ℕ) → bytes k ≡ eeprom_of trace k) → steps ≡ trace.steps
-    → lines_of shows_duty n q (record { passed = 0; store = s }) (readings steps) ≡ run_lines shows_duty n p trace
-run_lines_from shows_duty n p q trace bytes s steps same_program is same_bytes same_steps =
-    ap (λ r. lines_of shows_duty n r (record { passed = 0; store = s }) (readings steps)) same_program
-    ∙ ap (λ at. lines_of shows_duty n p at (readings steps)) (begins p trace bytes s is same_bytes)
-    ∙ ap (λ ss. lines_of shows_duty n p (before p trace) (readings ss)) same_steps
+-- the lines of a simulator that begins with the bytes of a trace are those of the program's run
+pub lines_from_start : (duty : DutyShown) (n : Names) (p : IntProgram) (m : Running) (trace : Trace) (bytes : ℕ → ℕ)
+    → m.program ≡ p → state_of m ≡ start p.starts bytes → ((k : ℕ) → bytes k ≡ eeprom_of trace k) → sim_lines duty n m trace ≡ run_lines duty n p trace
+lines_from_start duty n p m trace bytes same_program is same_bytes =
+    ap (λ q. lines_of duty n q (record { passed = 0; store = state_of m }) (readings trace.steps)) same_program
+    ∙ ap (λ at. lines_of duty n p at (readings trace.steps)) (begins p trace bytes (state_of m) is same_bytes)

@@ -11,9 +11,9 @@ point_of r = record { passed = r.passed; store = state_of r.sim }
 -- all but the point is the same
 pub record IsSame (old new : Run) : Type 0 where
   pub names : new.names ≡ old.names
-  pub shows_duty : new.shows_duty ≡ old.shows_duty
+  pub duty : new.duty ≡ old.duty
   pub program : new.sim.program ≡ old.sim.program
 
 -- the lines of readings from where a run stands
 abbrev pub lines_behind : Run → List Reading → List ℕ
-lines_behind r rs = lines_of r.shows_duty r.names.now r.sim.program (point_of r) rs
+lines_behind r rs = lines_of r.duty r.names.now r.sim.program (point_of r) rs

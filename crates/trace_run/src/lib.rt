@@ -1,6 +1,6 @@
-//! A program that is run over a trace, with a line for each cycle.
+//! A simulator that is run over a trace, with a line for each cycle.
 #![tactic(auto)]
 
 mod run;
 
-pub use run::run_trace;
+pub use run::{eeprom, run_sim};

@@ -1,17 +1,17 @@
-//! Runs a program over a trace.
+//! Runs a simulator over a trace.
 
-ghost use Rattle.std.specs.Prelude.{◌≡◌, ℕ, ◌+◌, ◌<◌, ◌≤◌, true, List, [], ◌∷◌, ◌++◌, replicate, slice_index_or, OnOk};
+ghost use Rattle.std.specs.Prelude.{◌≡◌, ℕ, ◌+◌, ◌<◌, ◌≤◌, true, List, [], ◌∷◌, ◌++◌, length, replicate, slice_index_or, OnOk};
 ghost use Rattle.ld_base.specs.Counts.{OutCount};
 ghost use Rattle.ladder_trace.specs.Token.{IsReadingOf};
-ghost use Rattle.ladder_trace.specs.Line.{most_cycles};
+ghost use Rattle.ladder_trace.specs.Line.{most_cycles, eeprom_size};
 ghost use Rattle.ladder_trace.specs.Trace.{IsTraceOf};
 ghost use Rattle.ladder_trace.specs.Simulated.{eeprom_of};
 ghost use Rattle.trace_run.specs.Held.{point_of, lines_behind, IsSame};
-ghost use Rattle.trace_run.specs.Run.{behind, run_lines, IsProgramOf};
+ghost use Rattle.trace_run.specs.Run.{behind, sim_lines, IsProgramOf};
 
-use int_code::op::IntProgram;
 use int_sim::Sim;
 use ladder_meaning::reading::Reading;
+use ladder_trace::duty::DutyShown;
 use ladder_trace::shown::shown_line;
 use ladder_trace::trace::{Step, Trace};
 use ladder_tree::names::Names;
@@ -23,7 +23,7 @@ use std::alloc::Global;
 #[derive(Drop)]
 pub struct Run<'a> {
     pub names: &'a Names,
-    pub shows_duty: bool,
+    pub duty: DutyShown,
     pub sim: Sim,
     /// How many cycles were shown: a trace has 100,000 at most.
     pub passed: u32,
@@ -48,7 +48,7 @@ impl Run<'_> {
     {
         self.sim.cycle(reading);
         self.passed += 1;
-        let view = self.sim.view_by(alloc, self.names, self.shows_duty)?;
+        let view = self.sim.view_by(alloc, self.names, self.duty)?;
         let line = shown_line(alloc, self.names, self.passed, &view)?;
         write_out(out, line.as_slice())
     }
@@ -72,8 +72,8 @@ impl Run<'_> {
 }
 
 /// The bytes of a trace's EEPROM.
-fn eeprom(trace: &Trace, n: &Names) -> [u8; 512]
-    requires { IsTraceOf n.now trace.now }
+pub fn eeprom(trace: &Trace) -> [u8; 512]
+    requires { length trace.now.eeprom ≡ eeprom_size }
     ensures { (k : ℕ) → slice_index_or result k 0 ≡ eeprom_of trace.now k }
 {
     let mut bytes = [0xff; 512];
@@ -81,26 +81,25 @@ fn eeprom(trace: &Trace, n: &Names) -> [u8; 512]
     bytes
 }
 
-/// Runs a program over a trace from its start, and writes a line for each cycle: what the names and the devices show, and
-/// the duty of the PWM where it is told to. A fault writes a front of the lines. Nothing is kept of a cycle but the state.
-pub fn run_trace<O: Out>(
+/// Runs a simulator over a trace from where it stands, and writes a line for each cycle: what the names and the devices show, with
+/// the duty of the PWM as it is told to. A fault writes a front of the lines. Nothing is kept of a cycle but the state.
+pub fn run_sim<O: Out>(
     alloc: Global,
     out: &mut O,
     names: &Names,
-    shows_duty: bool,
-    program: IntProgram,
+    duty: DutyShown,
+    sim: Sim,
     trace: &Trace,
 ) -> Result<(), FileFault>
-    requires program { IsProgramOf names.now program }
+    requires program { IsProgramOf names.now sim.program }
     requires trace { IsTraceOf names.now trace.now }
     ensures count { OutCount (O.fault_count out.old) (O.fault_count out.new) result }
-    ensures whole { O.tells ≡ true → OnOk result (O.written out.new ≡ O.written out.old ++ run_lines shows_duty names.now program trace.now) }
-    ensures part { O.tells ≡ true → (front : List ℕ) × (rest : List ℕ) × (run_lines shows_duty names.now program trace.now ≡ front ++ rest) × (O.written out.new ≡ O.written out.old ++ front) }
+    ensures whole { O.tells ≡ true → OnOk result (O.written out.new ≡ O.written out.old ++ sim_lines duty names.now sim trace.now) }
+    ensures part { O.tells ≡ true → (front : List ℕ) × (rest : List ℕ) × (sim_lines duty names.now sim trace.now ≡ front ++ rest) × (O.written out.new ≡ O.written out.old ++ front) }
 {
-    let sim = Sim::new(alloc, program, &eeprom(trace, names))?;
     let mut run = Run {
         names,
-        shows_duty,
+        duty,
         sim,
         passed: 0,
     };

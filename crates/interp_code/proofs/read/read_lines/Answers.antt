@@ -35,6 +35,7 @@ loop-bytes-preserved c =
       v.1 ∙ ap (λ ls. v.0 ++ ls) c.in-Some.ensures.line.lines ∙ sym (append_assoc v.0 (line ∷ []) (lines c.in-Some.behind.now)),
       omega (arith, size),
       omega (arith, shorter),
-      read_push (draft c.loop-bytes.reader) v.0 line _ v.4 (took (step_line (draft c.loop-bytes.reader) line) c.in_ok-read.field-0 (draft c.read.new.self) c.in_ok-read.ensures taken),
+      read_push (draft c.loop-bytes.reader) v.0 line _ v.4
+          (took (step_line (draft c.loop-bytes.reader) line) c.in_ok-read.field-0 (draft c.read.new.self) c.in_ok-read.ensures taken),
       omega arith,
     )

@@ -3,5 +3,5 @@ use Rattle.ladder_lower.proofs.numbers.emit_moves.Goals as goal
 
 pub loop-place-preserved : goal.loop-place-preserved
 loop-place-preserved c =
-    rw (c.in_ok-push.ensures.ok, c.variable_of.ensures, c.variable_of-in-loop-place.ensures, c.in_ok-to.ensures, c.in_ok-from.ensures)
+    rw (c.in_ok-push.ensures.ok, c.in_ok-v.ensures, c.in_ok-from.ensures)
     (moves_step c.args.layout.now c.args.name.now c.loop-place.place c.loop-place.ops _ c.loop-place-test.true c.loop-place.invariant)

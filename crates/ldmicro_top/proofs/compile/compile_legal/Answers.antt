@@ -1,4 +1,4 @@
-use Rattle.std.proofs.Common.{length, ap, ◌∙◌, subst}
+use Rattle.std.proofs.Common.{length, ap, ◌∙◌, subst, arith}
 use Rattle.ladder_tree.specs.declared.names.Names.{Names}
 use Rattle.ladder_lower.specs.Correct.{KeepsHistory}
 use Rattle.ladder_lower.specs.Outcome.{HasSizes}
@@ -9,6 +9,7 @@ use Rattle.ldmicro_top.proofs.CarryLemmas.{carried}
 use Rattle.ldmicro_top.proofs.LengthLemmas.{text_short}
 use Rattle.ldmicro_top.proofs.NamedLemmas.{writable_names}
 use Rattle.ldmicro_top.proofs.RoomLemmas.{few}
+use Rattle.ldmicro_top.proofs.TargetLemmas.{built_only, carries_on, cap_on, reports_on}
 use Rattle.ldmicro_top.proofs.compile.compile_legal.Goals as goal
 
 pub write_interp-requires : goal.write_interp-requires
@@ -18,7 +19,9 @@ write_interp-requires c =
     let names = c.args.legal.now.names in
     let program = c.in_ok-program.program in
     let l = rw (c.names-names.ensures, c.project-project.ensures) at c.in_ok-program.ensures in
-    rw (c.names-names.ensures, c.project-project.ensures) (writable_names p names program r.can.names r.can.named r.within.read r.within.cycle (few p.target names r.fits).persistent l.formed l.numbers l.sizes l.room)
+    let room = few p.target names r.fits in
+    rw (c.names-names.ensures, c.project-project.ensures)
+    (writable_names p names program r.can.names r.can.named r.within.read r.within.cycle room.persistent l.formed l.numbers l.sizes l.room)
 
 pub returns : goal.returns
 returns c =
@@ -28,15 +31,21 @@ returns c =
     let program = c.in_ok-program.program in
     let code = c.in_ok-code.code in
     let room = few p.target names r.fits in
+    let interp = built_only p.target r.within.target in
     let l = rw (c.names-names.ensures, c.project-project.ensures) at c.in_ok-program.ensures in
     let texts = rw (c.names-names.ensures, c.project-project.ensures) at c.in_ok-code.ensures in
+    let writable = writable_names p names program r.can.names r.can.named r.within.read r.within.cycle room.persistent l.formed l.numbers l.sizes l.room in
     record {
-      most = length program.ops;
-      carries = carried p program code
+      cycles = length program.ops;
+      boot = 0;
+      carries = carries_on p code (length program.ops) 0 interp (carried p program code
           (subst (λ (n : Names). IsProgram (lines code) (read_as p.cycle n program)) r.can.names texts.reads_back)
-          (rw texts.text (text_short p names program (writable_names p names program r.can.names r.can.named r.within.read r.within.cycle room.persistent l.formed l.numbers l.sizes l.room) l.small room l.room l.numbers l.sizes r.can.fit))
+          (rw texts.text (text_short p names program writable l.small room l.room l.numbers l.sizes r.can.fit))
           (subst (λ (n : Names). HasSizes n p program) r.can.names l.sizes)
-          (subst (λ (n : Names). KeepsHistory n p program.ops) r.can.names l.keeps);
-      cap = l.cap;
-      report = c.in_ok-report.ensures ∙ ap (report c.names-names.result.now) c.len.ensures ∙ ap (λ (n : Names). report n (length program.ops)) (c.names-names.ensures ∙ r.can.names);
+          (subst (λ (n : Names). KeepsHistory n p program.ops) r.can.names l.keeps));
+      cycles_few = cap_on p (length program.ops) interp l.cap;
+      boot_few = omega arith;
+      report = reports_on p (length program.ops) 0 _ interp
+          (c.in_ok-report.ensures ∙ ap (report c.names-names.result.now) c.len.ensures
+          ∙ ap (λ (n : Names). report n (length program.ops)) (c.names-names.ensures ∙ r.can.names));
     }

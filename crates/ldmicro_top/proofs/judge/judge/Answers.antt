@@ -12,7 +12,8 @@ pub fit-requires : goal.fit-requires
 fit-requires c =
     let legal = c.in-Ok.legal in
     let within = subst IsWithin (sym c.in-Ok.ensures.ok.1) c.requires in
-    subst IsSmall (sym c.names.ensures) (small legal.names legal.project (can_lower legal.names legal.project legal.named within legal.rules c.in-Ok.ensures.kinds))
+    subst IsSmall (sym c.names.ensures)
+    (small legal.names legal.project (can_lower legal.names legal.project legal.named within legal.rules c.in-Ok.ensures.kinds))
 
 pub returns-in-Ok-fit-clause-judged : goal.returns-in-Ok-fit-clause-judged
 returns-in-Ok-fit-clause-judged c =

@@ -1,6 +1,10 @@
-use Rattle.std.proofs.Common.{◌≡◌, ◌⊎◌, inl, inr, ℕ, List, Option, Some, None, sym, ap, ◌∙◌, subst}
+use Rattle.std.proofs.Common.{◌≡◌, ◌⊎◌, inl, inr, ℕ, List, Option, Some, None, Result, Ok, Err, sym, ap, ◌∙◌, subst}
 use Rattle.ld_base.specs.Bytes.{Held}
+use Rattle.chip_tables.specs.declared.target.Target.{Target}
+use Rattle.chip_tables.specs.declared.target.Target.TheVariants.{F628, F877, Mega16, Interp, AnsiC}
 use Rattle.ladder_tree.specs.Names.{names_of}
+use Rattle.ladder_trace.specs.Trace as trace
+use Rattle.ladder_trace.specs.declared.trace.Trace.{Trace}
 use Rattle.ladder_tree.specs.declared.fault.ProjectFault.{ProjectFault}
 use Rattle.ladder_tree.specs.declared.names.Names.{Names}
 use Rattle.ladder_tree.specs.declared.project.Project.{Project}
@@ -12,9 +16,10 @@ use Rattle.ldmicro_top.specs.Verdict.{verdict}
 use Rattle.ldmicro_top.specs.Replayed.{SameNames}
 use Rattle.ldmicro_top.specs.declared.status.InputFault.TheVariants as input
 use Rattle.ldmicro_top.specs.declared.status.Status.{Status}
-use Rattle.ldmicro_top.specs.declared.status.Status.TheVariants.{Ok, Refused, BadInput}
+use Rattle.ldmicro_top.specs.declared.status.Status.TheVariants as status
 use Rattle.ldmicro_top.specs.Command.{Command, Compile, Simulate, Replay, Other}
-use Rattle.ldmicro_top.specs.Expected.{IsRefusedFor, IsAccepted, ProjectAnswers, HeldAnswers, TraceAnswers, CodeAnswers, Expected}
+use Rattle.ldmicro_top.specs.Expected.{IsRefusedFor, IsAccepted, ProjectAnswers, CompileAnswers, SimulateAnswers, ReplayAnswers, HeldAnswers, TraceAnswers, AnswersOf, CodeAnswers, FileAnswersOn, RunAnswers, Expected}
+use Rattle.ldmicro_top.proofs.TargetLemmas.{replays_interp}
 use Rattle.ldmicro_top.proofs.CodeLemmas.{one_refusal, code_stands, one_code}
 use Rattle.ldmicro_top.proofs.laws.one_answer_is_expected.Goals as goal
 
@@ -46,18 +51,23 @@ of_project : (go_on : Project → Status → Type 0) → ((p : Project) → IsSi
 of_project go_on one text a b (inl h) (inl k) = one k.0 a b (subst (λ (p : Project). go_on p a) (same_project text h.0 k.0 h.1 k.1) h.2) k.2
 of_project go_on one text a b (inl h) (inr k) = absurd (not_both text h.0 k.0 h.1 k.1)
 of_project go_on one text a b (inr h) (inl k) = absurd (not_both text k.0 h.0 k.1 h.1)
-of_project go_on one text a b (inr h) (inr k) = h.2 ∙ ap Refused (one_fault text h.0 k.0 h.1 k.1) ∙ sym k.2
+of_project go_on one text a b (inr h) (inr k) = h.2 ∙ ap status.Refused (one_fault text h.0 k.0 h.1 k.1) ∙ sym k.2
 
 of_held : (go_on : List ℕ → Status → Type 0) → ((text : List ℕ) → IsSingle (go_on text)) → (o : Option (List ℕ)) → IsSingle (HeldAnswers go_on o)
 of_held go_on one None a b h k = h ∙ sym k
 of_held go_on one (Some text) a b h k = one text a b h k
 
-of_trace : (n : Names) (text : List ℕ) → IsSingle (TraceAnswers n text)
-of_trace n text a b h k = h ∙ sym k
+of_trace : (n : Names) (go_on : Trace → Status → Type 0) → ((t : Trace) → IsSingle (go_on t)) → (text : List ℕ) → IsSingle (TraceAnswers n go_on text)
+of_trace n go_on one text = by (trace.verdict n text)
+  where
+    by : (v : Result Trace ℕ) → IsSingle (AnswersOf go_on v)
+    by (Ok t) a b h k = one t a b h k
+    by (Err line) a b h k = h ∙ sym k
 
 -- what a text that says the program answers
 abbrev ProgramAnswers : Names → (Status → Type 0) → InterpProgram → Status → Type 0
-ProgramAnswers n go_on p answer = (SameNames n p.names × go_on answer) ⊎ ((SameNames n p.names → ⊥) × (answer ≡ BadInput (input.OtherProject p.code_line)))
+ProgramAnswers n go_on p answer =
+    (SameNames n p.names × go_on answer) ⊎ ((SameNames n p.names → ⊥) × (answer ≡ status.BadInput (input.OtherProject p.code_line)))
 
 of_program : (n : Names) (go_on : Status → Type 0) → IsSingle go_on → (p : InterpProgram) → IsSingle (ProgramAnswers n go_on p)
 of_program n go_on one p a b (inl h) (inl k) = one a b h.1 k.1
@@ -66,22 +76,42 @@ of_program n go_on one p a b (inr h) (inl k) = absurd (h.0 k.0)
 of_program n go_on one p a b (inr h) (inr k) = h.1 ∙ sym k.1
 
 of_code : (n : Names) (go_on : Status → Type 0) → IsSingle go_on → (text : List ℕ) → IsSingle (CodeAnswers n go_on text)
-of_code n go_on one text a b (inl h) (inl k) = of_program n go_on one k.0 a b (subst (λ (p : InterpProgram). ProgramAnswers n go_on p a) (one_code text h.0 k.0 h.1 k.1) h.2) k.2
+of_code n go_on one text a b (inl h) (inl k) =
+    of_program n go_on one k.0 a b (subst (λ (p : InterpProgram). ProgramAnswers n go_on p a) (one_code text h.0 k.0 h.1 k.1) h.2) k.2
 of_code n go_on one text a b (inl h) (inr k) = absurd (code_stands text h.0 k.0 h.1 k.1)
 of_code n go_on one text a b (inr h) (inl k) = absurd (code_stands text k.0 h.0 k.1 h.1)
-of_code n go_on one text a b (inr h) (inr k) = h.2 ∙ ap (λ line. BadInput (input.Interp line)) (one_refusal text h.0 k.0 h.1 k.1) ∙ sym k.2
+of_code n go_on one text a b (inr h) (inr k) = h.2 ∙ ap (λ line. status.BadInput (input.Interp line)) (one_refusal text h.0 k.0 h.1 k.1) ∙ sym k.2
+
+of_file : (t : Target) (n : Names) (go_on : Status → Type 0) → IsSingle go_on → (file : List ℕ) → IsSingle (FileAnswersOn t n go_on file)
+of_file F628 n go_on one file a b h k = absurd h
+of_file F877 n go_on one file a b h k = absurd h
+of_file Mega16 n go_on one file a b h k = absurd h
+of_file Interp n go_on one file a b h k = of_code n go_on one file a b h k
+of_file AnsiC n go_on one file a b h k = absurd h
+
+of_run : (p : Project) (file : List ℕ) (t : Trace) → IsSingle (RunAnswers p file t)
+of_run p file t a b h k = (replays_interp p file t h.0 a h.1).1.ends ∙ sym (replays_interp p file t k.0 b k.1).1.ends
+
+of_simulation : (held : Held) (trace : List ℕ) (p : Project) → IsSingle (SimulateAnswers held trace p)
+of_simulation held trace p =
+    let n = names_of p.rungs in
+    let go_on : Trace → Status → Type 0 = λ t answer. answer ≡ status.Ok in
+    of_held (TraceAnswers n go_on) (of_trace n go_on (λ t a b h k. h ∙ sym k)) (held trace)
+
+of_replay : (held : Held) (file trace : List ℕ) (p : Project) → IsSingle (ReplayAnswers held file trace p)
+of_replay held file trace p =
+    let n = names_of p.rungs in
+    let next : List ℕ → Status → Type 0 = λ code. HeldAnswers (TraceAnswers n (RunAnswers p code)) (held trace) in
+    let one : (code : List ℕ) → IsSingle (next code) = λ code.
+    of_held (TraceAnswers n (RunAnswers p code)) (of_trace n (RunAnswers p code) (of_run p code)) (held trace) in
+    of_held (λ code. FileAnswersOn p.target n (next code) code) (λ code. of_file p.target n (next code) (one code) code) (held file)
 
 one_expected : (command : Command) (held : Held) → IsSingle (Expected command held)
-one_expected (Compile source dest) held = of_held (ProjectAnswers (λ p a. a ≡ Ok)) (of_project (λ p a. a ≡ Ok) (λ p a b h k. h ∙ sym k)) (held source)
+one_expected (Compile source dest) held = of_held (ProjectAnswers CompileAnswers) (of_project CompileAnswers (λ p a b h k. h ∙ sym k)) (held source)
 one_expected (Simulate source trace) held =
-    let run : Project → Status → Type 0 = λ p. HeldAnswers (TraceAnswers (names_of p.rungs)) (held trace) in
-    of_held (ProjectAnswers run) (of_project run (λ p. of_held (TraceAnswers (names_of p.rungs)) (of_trace (names_of p.rungs)) (held trace))) (held source)
+    of_held (ProjectAnswers (SimulateAnswers held trace)) (of_project (SimulateAnswers held trace) (of_simulation held trace)) (held source)
 one_expected (Replay source file trace) held =
-    let run : Project → Status → Type 0 = λ p. HeldAnswers (TraceAnswers (names_of p.rungs)) (held trace) in
-    let code : Project → List ℕ → Status → Type 0 = λ p. CodeAnswers (names_of p.rungs) (run p) in
-    let go_on : Project → Status → Type 0 = λ p. HeldAnswers (code p) (held file) in
-    let one_run : (p : Project) → IsSingle (run p) = λ p. of_held (TraceAnswers (names_of p.rungs)) (of_trace (names_of p.rungs)) (held trace) in
-    of_held (ProjectAnswers go_on) (of_project go_on (λ p. of_held (code p) (of_code (names_of p.rungs) (run p) (one_run p)) (held file))) (held source)
+    of_held (ProjectAnswers (ReplayAnswers held file trace)) (of_project (ReplayAnswers held file trace) (of_replay held file trace)) (held source)
 one_expected Other held = λ a b h k. h ∙ sym k
 
 pub returns : goal.returns

@@ -1,8 +1,24 @@
+use Rattle.std.proofs.Common.{refl, sym, ◌∙◌}
+use Rattle.ladder_trace.specs.Simulated.{simulated}
+use Rattle.ldmicro_top.specs.declared.status.Status.TheVariants.{Ok}
 use Rattle.ldmicro_top.proofs.SimulatedLemmas.{carried_names, carried_lines}
+use Rattle.ldmicro_top.proofs.TargetLemmas.{carries_interp, replays_interp, replays_on}
 use Rattle.ldmicro_top.proofs.laws.replay_agrees.Goals as goal
 
-pub returns-clause-names : goal.returns-clause-names
-returns-clause-names c p code most said h k = carried_names p code most said h k
+pub returns-clause-runs : goal.returns-clause-runs
+returns-clause-runs c p code cycles boot trace h =
+    let by = carries_interp p code cycles boot h in
+    let said = by.1.program in
+    replays_on p code trace (simulated p trace) Ok by.0 (record {
+      said = said;
+      text = (by.1.read, by.1.within);
+      names = carried_names p code cycles said by.1 (by.1.read, by.1.within);
+      lines = sym (carried_lines p code cycles said trace by.1 (by.1.read, by.1.within));
+      ends = refl;
+    })
 
-pub returns-clause-lines : goal.returns-clause-lines
-returns-clause-lines c p code most said trace h k = carried_lines p code most said trace h k
+pub returns-clause-only : goal.returns-clause-only
+returns-clause-only c p code cycles boot trace printed ending h r =
+    let by = carries_interp p code cycles boot h in
+    let ran = replays_interp p code trace printed ending r in
+    (ran.1.lines ∙ carried_lines p code cycles ran.1.said trace by.1 ran.1.text, ran.1.ends)

@@ -1,6 +1,7 @@
 use Rattle.std.proofs.Common.{arith, []}
 use Rattle.ldmicro_top.specs.Command.{Command, Replay}
-use Rattle.ldmicro_top.specs.Ran.{World}
+use Rattle.ldmicro_top.specs.declared.status.Status.TheVariants.{Ok}
+use Rattle.ldmicro_top.specs.World.{world}
 use Rattle.ldmicro_top.specs.Steps.{lines_of_run}
 use Rattle.ldmicro_top.proofs.GoodLemmas.{replayed_good}
 use Rattle.ldmicro_top.proofs.RanLemmas.{Later, declined, reported}
@@ -12,8 +13,8 @@ returns-in-Err g c =
     let O = g.O.Out in
     let only = c.take_replay.ensures.only in
     let command : Command = Replay c.args.source.now c.args.file.now c.args.trace.now in
-    let old : World = record { counts = F.counts c.args.files.now; held = F.held c.args.files.now; faults = O.fault_count c.args.out.now; written = O.written c.args.out.now } in
-    let new : World = record { counts = F.counts c.take_replay.new.files; held = F.held c.take_replay.new.files; faults = O.fault_count c.tell.new.out; written = O.written c.tell.new.out } in
+    let old = world F O c.args.files.now c.args.out.now in
+    let new = world F O c.take_replay.new.files c.tell.new.out in
     let later : Later old new = record { reads = only.reads; absences = only.absences; writes = omega (arith, only.writes); faults = c.tell.ensures.later } in
     declined F.tells O.tells command old new later c.in-Err.status c.tell.result tt c.in-Err.ensures.declined only.same c.tell.ensures
 
@@ -24,9 +25,9 @@ returns-in-Ok g c =
     let only = c.take_replay.ensures.only in
     let command : Command = Replay c.args.source.now c.args.file.now c.args.trace.now in
     let printed = lines_of_run c.in-Ok.run' in
-    let old : World = record { counts = F.counts c.args.files.now; held = F.held c.args.files.now; faults = O.fault_count c.args.out.now; written = O.written c.args.out.now } in
-    let new : World = record { counts = F.counts c.take_replay.new.files; held = F.held c.take_replay.new.files; faults = O.fault_count c.show.new.out; written = O.written c.show.new.out } in
+    let old = world F O c.args.files.now c.args.out.now in
+    let new = world F O c.take_replay.new.files c.show.new.out in
     let later : Later old new = record { reads = only.reads; absences = only.absences; writes = omega (arith, only.writes); faults = c.show.ensures.later } in
     reported F.tells O.tells command old new later [] printed c.show.result
-    (λ y. replayed_good c.args.source.now c.args.file.now c.args.trace.now old.held printed (c.in-Ok.ensures.replayed y))
+    (λ y. replayed_good c.args.source.now c.args.file.now c.args.trace.now old.held printed Ok (c.in-Ok.ensures.replayed y))
     c.in-Ok.ensures.replayed only.same c.show.ensures

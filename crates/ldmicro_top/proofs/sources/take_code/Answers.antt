@@ -8,7 +8,7 @@ pub returns-then-not-same_names-clause-declined : goal.returns-then-not-same_nam
 returns-then-not-same_names-clause-declined g c = record {
   why = inr (inr (
     refl,
-    (λ e. cc),
+    refl,
     λ y.
         let b = c.in-Ok.ensures.bytes y in
         other_project (g.F.Files.held c.args.files.now) c.args.name.now c.deref.result.now c.args.names.now c.in-Ok-read_interp.said (b.0, b.1, c.deref.ensures.value ∙ b.2)
@@ -33,7 +33,7 @@ pub returns-in-Err-Fault-clause-declined : goal.returns-in-Err-Fault-clause-decl
 returns-in-Err-Fault-clause-declined g c = record {
   why = inr (inr (
     refl,
-    (λ e. cc),
+    refl,
     λ y.
         let b = c.in-Ok.ensures.bytes y in
         refused_code (g.F.Files.held c.args.files.now) c.args.name.now c.deref.result.now c.args.names.now c.in-Err-Fault.fault.line (b.0, b.1, c.deref.ensures.value ∙ b.2)

@@ -29,7 +29,7 @@ pub returns-in-Err-Refused-clause-declined : goal.returns-in-Err-Refused-clause-
 returns-in-Err-Refused-clause-declined g c = record {
   why = inr (inr (
     refl,
-    (λ e. cc),
+    refl,
     λ y. turned_down (g.F.Files.held c.args.files.now) c.args.source.now c.in-Ok.project c.in-Err-Refused.fault (c.in-Ok.ensures.read y)
         (subst (λ (e : TextError). IsTurnedDown c.in-Ok.project e) c.in-Err-Refused.field-0-is c.in-Err-Refused.ensures.refused),
   ));

@@ -18,7 +18,7 @@ pub returns-in-Err-Fault-clause-declined : goal.returns-in-Err-Fault-clause-decl
 returns-in-Err-Fault-clause-declined g c = record {
   why = inr (inr (
     refl,
-    (λ e. cc),
+    refl,
     λ y.
         let b = c.in-Ok.ensures.bytes y in
         refused_trace (g.F.Files.held c.args.files.now) c.args.name.now c.deref.result.now c.args.names.now c.in-Err-Fault.line (b.0, b.1, c.deref.ensures.value ∙ b.2)

@@ -28,7 +28,8 @@ returns-in-Err-clause-refused g c =
     let fed = c.loop-taken.invariant.fed in
     let piece = take c.in_ok-n.n c.read.new.buf in
     let most : length c.read.new.buf ≤ FILE_BYTES + 1 - c.loop-taken.taken = grind (arith, common_steps) in
-    let short : length (fed.0 ++ piece) ≤ FILE_BYTES + 1 = omega (arith, length-append fed.0 piece, length-take c.in_ok-n.n c.read.new.buf, most, fed.1, c.loop-taken.invariant.short) in
+    let short : length (fed.0 ++ piece) ≤ FILE_BYTES + 1 =
+    omega (arith, length-append fed.0 piece, length-take c.in_ok-n.n c.read.new.buf, most, fed.1, c.loop-taken.invariant.short) in
     rw c.from.ensures
     (fed_refused (Unit {0}) F.tells (F.left c.args.files.now) fed.0 piece c.in-Err.e
     (λ y. (F.left c.read.new.self, fed.3 y ∙ ap (λ rest. fed.0 ++ rest) (c.in_ok-n.ensures.bytes y) ∙ sym (append_assoc fed.0 piece (F.left c.read.new.self))))

@@ -1,7 +1,8 @@
 use Rattle.std.proofs.Common.{◌≡◌, drop, map}
 use Rattle.interp_code.specs.Program.{are_in}
-use Rattle.interp_code.specs.Draft.{names_of}
+use Rattle.texts.specs.Keys.{keys_of}
 use Rattle.interp_code.proofs.reader.Reader.analogs_are_variables.Given as goal
 
 abbrev pub invariant-loop-name : goal.invariant-loop-name
-invariant-loop-name l = are_in (names_of l.self.variables) (map (λ k. k.now) (drop l.name-index l.name-items)) ≡ are_in (names_of l.self.variables) (names_of l.self.analogs)
+invariant-loop-name l =
+    are_in (keys_of l.self.variables) (map (λ k. k.now) (drop l.name-index l.name-items)) ≡ are_in (keys_of l.self.variables) (keys_of l.self.analogs)

@@ -17,5 +17,5 @@ invariant-loop g l =
       later : o.fault_count l.fn.out ≤ o.fault_count l.out;
       few : l.self.passed + (l.end - l.counter) ≤ most_cycles;
       point : behind program (point_of l.self) left ≡ behind program (point_of run) all;
-      lines : o.tells ≡ true → IsSoFar run.shows_duty run.names.now program (point_of run) all (point_of l.self) left (o.written l.fn.out) (o.written l.out);
+      lines : o.tells ≡ true → IsSoFar run.duty run.names.now program (point_of run) all (point_of l.self) left (o.written l.fn.out) (o.written l.out);
     }

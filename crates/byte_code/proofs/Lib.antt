@@ -1,0 +1,6 @@
+pub mod SetLemmas
+pub mod LoopLemmas
+pub mod Times
+pub mod Steps
+pub mod Ways
+pub mod SampleLemmas

@@ -1,0 +1,29 @@
+//! Laws of the byte machine, each the contract of a function that does nothing.
+
+ghost use Rattle.std.specs.Prelude.{◌≡◌, true, false, List, Bool};
+ghost use Rattle.chip_tables.specs.declared.outside.PinReading.{PinReading};
+ghost use Rattle.byte_code.specs.declared.state.Bytes.{Bytes};
+ghost use Rattle.byte_code.specs.Store.{word_at};
+ghost use Rattle.byte_code.specs.Counts.{KeepsCounts};
+ghost use Rattle.byte_code.specs.Admitted.{admits};
+ghost use Rattle.byte_code.specs.Samples.{copier, by_twos, IsFresh, AtPolls, IsCopied, IsByTwos, one_to_one, other_way};
+ghost use Rattle.std.specs.List.{list_all};
+
+/// A program that copies a pin to a pin in each cycle begins each primitive as often as it says, and copies.
+pub fn copier_copies()
+    ensures counts { (s : Bytes) (readings : List PinReading) (answers : List Bool) → IsFresh s → KeepsCounts copier s readings answers }
+    ensures copies { (s : Bytes) (readings : List PinReading) (answers : List Bool) → IsFresh s → AtPolls copier s readings answers (IsCopied readings) }
+{}
+
+/// A program that calls a routine from two places begins each primitive as often as it says, and counts by twos.
+pub fn routine_is_called_twice()
+    ensures counts { (s : Bytes) (readings : List PinReading) (answers : List Bool) → IsFresh s → KeepsCounts by_twos s readings answers }
+    ensures counts_on { (s : Bytes) (readings : List PinReading) (answers : List Bool) → IsFresh s → AtPolls by_twos s readings answers (IsByTwos (word_at s.store 0x60)) }
+{}
+
+/// The copier and the program with the routine may stand in code for a project whose pins they use, and the copier in none whose input it writes.
+pub fn samples_are_admitted()
+    ensures copier { list_all (λ p. admits one_to_one p.prim) copier ≡ true }
+    ensures by_twos { list_all (λ p. admits one_to_one p.prim) by_twos ≡ true }
+    ensures other { list_all (λ p. admits other_way p.prim) copier ≡ false }
+{}

@@ -1,0 +1,11 @@
+use Rattle.std.proofs.Common.{ap, ◌∙◌}
+use Rattle.std.specs.Prelude.{is_some}
+use Rattle.ladder_tree.specs.Leaves.{all_leaves}
+use Rattle.ladder_rules.specs.Needs.{uses}
+use Rattle.ladder_rules.proofs.SoughtLemmas.{any_found}
+use Rattle.ladder_rules.proofs.survey.any_uses.Goals as goal
+
+pub returns : goal.returns
+returns c =
+    c.is_some.ensures ∙ ap (λ w. is_some w.0) c.visit_all.ensures
+    ∙ any_found (λ v l. uses v.feature l.kind) (record { feature = c.args.feature }) (all_leaves c.args.rungs.now)
