@@ -4,15 +4,22 @@ use ladder_tree::fault::ProjectFault;
 use ladder_tree::names::names_in_order;
 use ld_text::fault::TextError;
 use ld_text::read::read_project;
+use ldmicro_top::status::{Status, status_line};
 use std::alloc::{AllocError, Global};
 
 /// What the project of a text needs on a target: words of code, cycles of a cycle, and cycles of the start.
 pub fn needs(alloc: Global, text: &[u8], target: &str) -> Result<String, AllocError> {
     match aimed(alloc, text, target_of(target)) {
         Ok(Ok(legal)) => sums(alloc, &legal),
-        Ok(Err(fault)) | Err(TextError::Refused(fault)) => format!(in alloc; "{fault:?}"),
+        Ok(Err(fault)) | Err(TextError::Refused(fault)) => refusal(alloc, fault),
         Err(TextError::Memory(e)) => Err(e),
     }
+}
+
+/// The line of a refusal, without its end.
+fn refusal(alloc: Global, fault: ProjectFault) -> Result<String, AllocError> {
+    let line = status_line(alloc, Status::Refused(fault))?;
+    String::from_str(alloc, line.as_str().trim_end())
 }
 
 /// The project of a text for another target, where it keeps the rules.
