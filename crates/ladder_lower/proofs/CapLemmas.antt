@@ -45,6 +45,7 @@ use Rattle.ladder_lower.specs.NodeCode.{program_code}
 use Rattle.ladder_lower.specs.Outcome.{tabs_in}
 use Rattle.ladder_lower.specs.declared.layout.Layout.{Layout}
 use Rattle.ladder_tree.proofs.FoldLemmas.{fold-Leaf, fold-Series, fold-Parallel}
+use Rattle.ladder_tree.specs.declared.limits.TheConstants.{SHIFT_PLACES}
 use Rattle.ladder_lower.proofs.LeafLemmas.{fit_first, fit_front, fit_back}
 use Rattle.ladder_lower.proofs.OrdinaryLemmas.{any_special, element_plain}
 use Rattle.ladder_lower.proofs.PartLemmas.{IsShared, Ready, joined-cons, program_holds}
@@ -146,7 +147,7 @@ counted (Math how to a b) = let h = math_count how in record { within = omega (a
 counted (Compare how a b) = let h = compare_count how in record { within = omega (arith, h); few = λ cycle e. omega (arith, h) }
 counted (Shift name places) =
     let h = shift_count places in
-    record { within = omega (arith, h); few = λ cycle e. (let most : places ≤ 60 = grind (arith, nat_tests, e) in omega (arith, h, most)) }
+    record { within = omega (arith, h); few = λ cycle e. (let most : places ≤ SHIFT_PLACES = grind (arith, nat_tests, e) in omega (arith, h, most)) }
 counted _ = record { within = omega arith; few = λ cycle e. omega arith }
 
 abbrev weight : List Part → ℕ

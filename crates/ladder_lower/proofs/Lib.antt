@@ -6,7 +6,6 @@ pub mod CapLemmas
 pub mod CountLemmas
 pub mod Stands
 pub mod PlaceLemmas
-pub mod MasterLemmas
 pub mod WriteLemmas
 pub mod OpenLemmas
 pub mod Lowers

@@ -20,6 +20,7 @@ use Rattle.ladder_tree.specs.declared.element.Operand.TheVariants.{Var, Num}
 use Rattle.ladder_tree.specs.declared.element.TimerHow.{TimerHow}
 use Rattle.ladder_tree.specs.declared.element.TimerHow.TheVariants.{Ton, Tof, Rto}
 use Rattle.ladder_tree.specs.declared.project.Rung.{Rung}
+use Rattle.ladder_tree.specs.declared.limits.TheConstants.{TABLE_VALUES}
 use Rattle.ladder_meaning.specs.Cycle.{start_by, start_number}
 use Rattle.ladder_meaning.specs.Numbers.{period}
 use Rattle.int_code.specs.declared.op.IntOp.{IntOp}
@@ -127,7 +128,7 @@ module _ (p : Layout) where
   element_numbers (Compare how a b) k h = let f = both_true (is_fit_operand a) _ h in compare_numbers how _ _ (operand_is a f.0) (operand_is b f.1)
   element_numbers (Shift name places) k h = rise_numbers k (moves p name places) (moves_numbers name places)
   element_numbers (Table dest index as_text values) k h =
-      let f = both_true (nat_le (length values) 60) _ h in
+      let f = both_true (nat_le (length values) TABLE_VALUES) _ h in
       let g = both_true (is_fit_operand index) _ f.1 in
       (tt, ((operand_is index g.0, numbers_are values g.1), (tt, tt)))
   element_numbers (ReadAdc name) k h = (tt, (tt, (tt, tt)))

@@ -19,6 +19,7 @@ use Rattle.ladder_tree.specs.declared.element.LeafKind.TheVariants.{Persist, Lin
 use Rattle.ladder_tree.specs.declared.element.LeafKind.{LeafKind}
 use Rattle.ladder_tree.specs.declared.names.Names.{Names}
 use Rattle.ladder_tree.specs.declared.project.Rung.{Rung}
+use Rattle.ladder_tree.specs.declared.limits.TheConstants.{SHIFT_PLACES}
 use Rattle.ladder_meaning.specs.State.{place_of}
 use Rattle.ladder_lower.specs.Apart.{Apart, EachApart}
 use Rattle.ladder_lower.specs.Fit.{is_fit, all_fit}
@@ -266,7 +267,7 @@ firsts_count is_kind ns = let s = (firsts_seen (filter is_kind ns)).count in let
 pub record Counted (p : Names) (ls : List leaf.Leaf) : Type 0 where
   pub inputs : length p.inputs ≤ length ls
   pub outputs : length p.outputs ≤ length ls
-  pub variables : length p.variables ≤ 60 * length ls
+  pub variables : length p.variables ≤ SHIFT_PLACES * length ls
   pub analog : length p.analog ≤ length ls
   pub kept : length p.relays + (p.memories + length p.persistent) ≤ length ls
 
@@ -302,16 +303,16 @@ one_operand : (a : Operand) → length (operand_names a) ≤ 1
 one_operand (Var name) = omega arith
 one_operand (Num n) = omega arith
 
-fit_variables : (cycle : ℕ) (kind : LeafKind) → is_fit cycle kind ≡ true → length (variable_names kind) ≤ 60
+fit_variables : (cycle : ℕ) (kind : LeafKind) → is_fit cycle kind ≡ true → length (variable_names kind) ≤ SHIFT_PLACES
 fit_variables cycle (Move dest src) e = let a = one_operand src in omega arith
 fit_variables cycle (Math how dest a b) e = let x = one_operand a in let y = one_operand b in omega (arith, length-append (operand_names a) (operand_names b))
 fit_variables cycle (Compare how a b) e = let x = one_operand a in let y = one_operand b in omega (arith, length-append (operand_names a) (operand_names b))
-fit_variables cycle (Shift name places) e = let n = numbered_count name places in let most : places ≤ 60 = grind (arith, nat_tests, e) in omega arith
+fit_variables cycle (Shift name places) e = let n = numbered_count name places in let most : places ≤ SHIFT_PLACES = grind (arith, nat_tests, e) in omega arith
 fit_variables cycle (Table dest index as_text values) e = let a = one_operand index in omega arith
 fit_variables cycle (Linear dest index points) e = let a = one_operand index in omega arith
 fit_variables cycle _ e = omega arith
 
-variables : (cycle : ℕ) (ls : List leaf.Leaf) → all_fit cycle ls ≡ true → length (all_named variable_names ls) ≤ 60 * length ls
+variables : (cycle : ℕ) (ls : List leaf.Leaf) → all_fit cycle ls ≡ true → length (all_named variable_names ls) ≤ SHIFT_PLACES * length ls
 variables cycle [] e = omega arith
 variables cycle (l ∷ ls) e =
     let one : is_fit cycle l.kind ≡ true = grind (arith, e) in

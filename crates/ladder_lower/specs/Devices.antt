@@ -1,12 +1,9 @@
 -- Which devices a program's operations use, and which a ladder's elements.
 use Rattle.std.specs.Prelude.{ℕ, Bool, true, false, List, [], ◌∷◌}
 use Rattle.std.specs.List.{list_any, flat_map}
+use Rattle.std.specs.Option.{option_to_list}
+use Rattle.ladder_tree.specs.Peripherals.{rate_of}
 use Rattle.ladder_tree.specs.declared.element.Leaf as leaf
-use Rattle.ladder_tree.specs.declared.element.LeafKind.{LeafKind}
-use Rattle.ladder_tree.specs.declared.element.LeafKind.TheVariants.{Contacts, Coil, Osr, Osf, Short, Open, MasterRelay, Placeholder, Comment, Timer, Counter}
-use Rattle.ladder_tree.specs.declared.element.LeafKind.TheVariants.{Reset, Move, Math, Compare, Shift, Table, ReadAdc, SetPwm, Recv, Send, Persist, Linear}
-use Rattle.ladder_tree.specs.declared.element.LeafKind.TheVariants.{Formatted}
-use Rattle.ladder_rules.specs.Kinds.{is_uart}
 use Rattle.int_code.specs.declared.op.IntOp.{IntOp}
 use Rattle.int_code.specs.declared.op.IntOp.TheVariants.{Set, Clr, Cpy, Not, Ifs, Ifc, Iflt, Ifeq, Ifee, Els, Fi, Lit, Mov, Add, Sub, Mul, Div, Inc, Dec, Adc}
 use Rattle.int_code.specs.declared.op.IntOp.TheVariants.{Pwm, Rx, Tx, Eebusy, Eerd, Eewr, Tab}
@@ -44,10 +41,6 @@ is_serial (Tab v w values) = false
 abbrev pub has_serial : List IntOp → Bool
 has_serial ops = list_any is_serial ops
 
--- whether an element does
-abbrev pub has_uart : List leaf.Leaf → Bool
-has_uart ls = list_any (λ l. is_uart l.kind) ls
-
 abbrev pub hertz_of : IntOp → List ℕ
 hertz_of (Pwm w hz) = hz ∷ []
 hertz_of (Set b) = []
@@ -81,32 +74,6 @@ hertz_of (Tab v w values) = []
 abbrev pub hertz_in : List IntOp → List ℕ
 hertz_in ops = flat_map hertz_of ops
 
-abbrev pub hertz_at : LeafKind → List ℕ
-hertz_at (SetPwm name hz) = hz ∷ []
-hertz_at (Contacts name neg) = []
-hertz_at (Coil name mode) = []
-hertz_at Osr = []
-hertz_at Osf = []
-hertz_at Short = []
-hertz_at Open = []
-hertz_at MasterRelay = []
-hertz_at Placeholder = []
-hertz_at (Comment text) = []
-hertz_at (Timer how name delay) = []
-hertz_at (Counter how name max) = []
-hertz_at (Reset name) = []
-hertz_at (Move dest src) = []
-hertz_at (Math how dest a b) = []
-hertz_at (Compare how a b) = []
-hertz_at (Shift name places) = []
-hertz_at (Table dest index as_text values) = []
-hertz_at (ReadAdc name) = []
-hertz_at (Recv name) = []
-hertz_at (Send name) = []
-hertz_at (Persist name) = []
-hertz_at (Linear dest index points) = []
-hertz_at (Formatted name text) = []
-
 -- the hertz of the SET_PWMs, in order
 abbrev pub hertz_wanted : List leaf.Leaf → List ℕ
-hertz_wanted ls = flat_map (λ l. hertz_at l.kind) ls
+hertz_wanted ls = flat_map (λ l. option_to_list (rate_of l.kind)) ls

@@ -8,6 +8,7 @@ use Rattle.ladder_tree.specs.declared.element.LeafKind.TheVariants.{Reset, Move,
 use Rattle.ladder_tree.specs.declared.element.LeafKind.TheVariants.{Formatted}
 use Rattle.ladder_tree.specs.declared.element.Operand.{Operand}
 use Rattle.ladder_tree.specs.declared.element.Operand.TheVariants.{Var, Num}
+use Rattle.ladder_tree.specs.declared.limits.TheConstants.{TABLE_VALUES, SHIFT_PLACES}
 use Rattle.ladder_meaning.specs.Numbers.{period}
 use Rattle.int_code.specs.Literals.{is_number, most_hertz}
 
@@ -22,8 +23,8 @@ is_fit cycle (Counter how name max) = is_number max
 is_fit cycle (Move dest src) = is_fit_operand src
 is_fit cycle (Math how dest a b) = is_fit_operand a && is_fit_operand b
 is_fit cycle (Compare how a b) = is_fit_operand a && is_fit_operand b
-is_fit cycle (Shift name places) = nat_le places 60
-is_fit cycle (Table dest index as_text values) = nat_le (length values) 60 && (is_fit_operand index && list_all is_number values)
+is_fit cycle (Shift name places) = nat_le places SHIFT_PLACES
+is_fit cycle (Table dest index as_text values) = nat_le (length values) TABLE_VALUES && (is_fit_operand index && list_all is_number values)
 is_fit cycle (SetPwm name hz) = nat_le hz most_hertz
 -- in these there is no number
 is_fit cycle (Contacts name neg) = true

@@ -1,5 +1,5 @@
 -- Whether a project has a MASTER_RELAY.
-use Rattle.std.specs.Prelude.{Bool, true, false, List, Option, Some, None, if◌then◌else◌}
+use Rattle.std.specs.Prelude.{Bool, true, false, List}
 use Rattle.std.specs.List.{list_any}
 use Rattle.ladder_tree.specs.declared.element.Leaf as leaf
 use Rattle.ladder_tree.specs.declared.element.LeafKind.{LeafKind}
@@ -35,7 +35,3 @@ is_master (Formatted name text) = false
 
 abbrev pub any_master : List leaf.Leaf → Bool
 any_master ls = list_any (λ l. is_master l.kind) ls
-
--- what stops at a MASTER_RELAY
-abbrev pub at_master : {S : Type 0} → S → leaf.Leaf → Option (Unit {0}) × S
-at_master s l = (if is_master l.kind then Some tt else None, s)

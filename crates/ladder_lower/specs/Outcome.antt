@@ -7,7 +7,8 @@ use Rattle.ladder_tree.specs.Size.{size_of_all}
 use Rattle.ladder_tree.specs.declared.names.Names.{Names}
 use Rattle.ladder_tree.specs.declared.project.Project.{Project}
 use Rattle.ladder_meaning.specs.Cycle.{start_number}
-use Rattle.ladder_meaning.specs.View.{has_set_pwm}
+use Rattle.ladder_tree.specs.Peripherals.{any_pwm, any_uart}
+use Rattle.ladder_tree.specs.declared.limits.TheConstants.{DEPTH}
 use Rattle.ladder_rules.specs.Needs.{total}
 use Rattle.ladder_rules.specs.declared.cost.Column.TheVariants.{Ops}
 use Rattle.int_code.specs.Kinds.{kinds, IsWithin}
@@ -21,7 +22,7 @@ use Rattle.int_code.specs.declared.op.IntOp.TheVariants.{Pwm, Rx, Tx, Eebusy, Ee
 use Rattle.int_code.specs.declared.op.IntProgram.{IntProgram}
 use Rattle.ladder_lower.specs.Careful.{IsCareful}
 use Rattle.ladder_lower.specs.Correct.{KeepsHistory}
-use Rattle.ladder_lower.specs.Devices.{has_serial, has_uart, hertz_in, hertz_wanted}
+use Rattle.ladder_lower.specs.Devices.{has_serial, hertz_in, hertz_wanted}
 use Rattle.ladder_lower.specs.Fit.{all_fit}
 use Rattle.ladder_lower.specs.Masters.{any_master}
 use Rattle.ladder_lower.specs.NodeCode.{program_code}
@@ -33,7 +34,7 @@ pub record CanLower (n : Names) (q : Project) : Type 0 where
   pub named : all_well_named (all_leaves q.rungs) ≡ true
   pub cycle : q.cycle ≢ 0
   pub fit : all_fit q.cycle (all_leaves q.rungs) ≡ true
-  pub depth : depth_of_all q.rungs ≤ 16
+  pub depth : depth_of_all q.rungs ≤ DEPTH
   pub size : size_of_all q.rungs ≤ 13000
 
 -- The sizes are those of the names. Behind the kept bits, which are relays, memories and start flags, there are at most 48
@@ -110,9 +111,9 @@ pub record IsLowered (n : Names) (q : Project) (p : IntProgram) : Type 0 where
   -- the EEPROM is not written while it is busy
   pub careful : IsCareful p.ops
   -- the devices are those of the elements
-  pub duty : has_pwm p.ops ≡ has_set_pwm (all_leaves q.rungs)
+  pub duty : has_pwm p.ops ≡ any_pwm (all_leaves q.rungs)
   pub hertz : hertz_in p.ops ≡ hertz_wanted (all_leaves q.rungs)
-  pub serial : has_serial p.ops ≡ has_uart (all_leaves q.rungs)
+  pub serial : has_serial p.ops ≡ any_uart (all_leaves q.rungs)
   -- all that the next steps count is small
   pub numbers : AllHoldNumbers p.ops
   pub room : HasRoom p

@@ -2,6 +2,7 @@
 
 ghost use Rattle.std.specs.Prelude.{◌≡◌, ◌^◌, ◌<◌};
 ghost use Rattle.ladder_tree.specs.Leaves.{all_leaves};
+ghost use Rattle.ladder_tree.specs.Visit.{seeks_any};
 ghost use Rattle.ladder_lower.specs.Masters.{is_master, any_master};
 ghost use Rattle.ladder_lower.specs.Nesting.{nesting, nesting_in, nesting_of_all};
 
@@ -14,11 +15,9 @@ use ladder_tree::visit::{Visitor, visit_all};
 struct MasterSought;
 
 impl Visitor for MasterSought {
-    ghost use Rattle.ladder_lower.specs.Masters.{at_master};
-
     type Stop = ();
 
-    ghost at = { at_master };
+    ghost at = { seeks_any (λ v l. is_master l.kind) };
 
     fn visit(&mut self, leaf: &Leaf) -> Option<()> {
         is_master(&leaf.kind).then_some(())

@@ -1,42 +1,9 @@
 -- What a ladder shows at the end of a cycle.
 use Rattle.std.specs.Prelude.{ℕ, ◌*◌, Bool, true, false, List, [], ◌∷◌, ℤ, length, map, unsigned_abs, nat_eq, Option, None, Some, if◌then◌else◌}
 use Rattle.std.specs.List.{list_any, range_with_len}
-use Rattle.ladder_tree.specs.declared.element.Leaf as leaf
-use Rattle.ladder_tree.specs.declared.element.LeafKind.{LeafKind}
-use Rattle.ladder_tree.specs.declared.element.LeafKind.TheVariants.{Contacts, Coil, Osr, Osf, Short, Open, MasterRelay, Placeholder, Comment, Timer, Counter, Reset, Move, Math, Compare, Shift, Table, ReadAdc, SetPwm, Recv, Send, Persist, Linear, Formatted}
 use Rattle.ladder_tree.specs.declared.names.Names.{Names}
 use Rattle.ladder_meaning.specs.declared.reading.View.{View}
 use Rattle.ladder_meaning.specs.Cycle.{Ended}
-
-abbrev pub is_set_pwm : LeafKind → Bool
-is_set_pwm (SetPwm name hz) = true
-is_set_pwm (Contacts name neg) = false
-is_set_pwm (Coil name mode) = false
-is_set_pwm Osr = false
-is_set_pwm Osf = false
-is_set_pwm Short = false
-is_set_pwm Open = false
-is_set_pwm MasterRelay = false
-is_set_pwm Placeholder = false
-is_set_pwm (Comment text) = false
-is_set_pwm (Timer how name delay) = false
-is_set_pwm (Counter how name max) = false
-is_set_pwm (Reset name) = false
-is_set_pwm (Move dest src) = false
-is_set_pwm (Math how dest a b) = false
-is_set_pwm (Compare how a b) = false
-is_set_pwm (Shift name places) = false
-is_set_pwm (Table dest index as_text values) = false
-is_set_pwm (ReadAdc name) = false
-is_set_pwm (Recv name) = false
-is_set_pwm (Send name) = false
-is_set_pwm (Persist name) = false
-is_set_pwm (Linear dest index points) = false
-is_set_pwm (Formatted name text) = false
-
--- whether there is a SET_PWM
-abbrev pub has_set_pwm : List leaf.Leaf → Bool
-has_set_pwm ls = list_any (λ l. is_set_pwm l.kind) ls
 
 -- the first so many
 abbrev pub firsts : {A : Type 0} → ℕ → (ℕ → A) → List A

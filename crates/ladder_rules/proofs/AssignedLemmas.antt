@@ -129,8 +129,24 @@ module _ (p : Project) where
     bit_at : (line : ℕ) (kind : LeafKind) (pre ls : List element.Leaf) →
         all_leaves p.rungs ≡ pre ++ (let l : element.Leaf = record { line = line; kind = kind } in l) ∷ ls → NeededBits ls →
         EachOf (Needed p bit_fits) (filter is_kind (bit_names kind ++ all_named bit_names ls))
-    bit_at line (Contacts name neg) pre ls is rest = bit_by (is_kind name) name (all_named bit_names ls) (λ t. record { before = pre; leaf = record { line = line; kind = Contacts name neg }; behind = ls; order = is; named = rw (only name t) refl; served = λ pin. refl }) rest
-    bit_at line (Coil name mode) pre ls is rest = bit_by (is_kind name) name (all_named bit_names ls) (λ t. record { before = pre; leaf = record { line = line; kind = Coil name mode }; behind = ls; order = is; named = rw (only name t) refl; served = λ pin. refl }) rest
+    bit_at line (Contacts name neg) pre ls is rest = bit_by (is_kind name) name (all_named bit_names ls)
+        (λ t. record {
+          before = pre;
+          leaf = record { line = line; kind = Contacts name neg };
+          behind = ls;
+          order = is;
+          named = rw (only name t) refl;
+          served = λ pin. refl;
+        }) rest
+    bit_at line (Coil name mode) pre ls is rest = bit_by (is_kind name) name (all_named bit_names ls)
+        (λ t. record {
+          before = pre;
+          leaf = record { line = line; kind = Coil name mode };
+          behind = ls;
+          order = is;
+          named = rw (only name t) refl;
+          served = λ pin. refl;
+        }) rest
     bit_at line _ pre ls is rest = rest
 
     bits_needed : (pre ls : List element.Leaf) → all_leaves p.rungs ≡ pre ++ ls → NeededBits ls
@@ -163,10 +179,12 @@ module _ (p : Project) where
     none_mapped (Some x) f h = absurd (none_some (f x) (sym h))
 
     none_unassigned : list_any (λ l. is_unassigned p.pins l.kind) (all_leaves p.rungs) ≡ false
-    none_unassigned = none_tells (fault_of (OnChip PinUnassigned) p) (is_unassigned p.pins) (λ s h. on_chip (is_chip p.target) (is_unassigned p.pins s.leaf.kind) _ chip h) p (kept p e).assigned
+    none_unassigned = none_tells (fault_of (OnChip PinUnassigned) p) (is_unassigned p.pins)
+        (λ s h. on_chip (is_chip p.target) (is_unassigned p.pins s.leaf.kind) _ chip h) p (kept p e).assigned
 
     none_wrong : list_any (λ l. is_some (wrong_pin p l.kind)) (all_leaves p.rungs) ≡ false
-    none_wrong = none_tells (fault_of (OnChip NoSuchPin) p) (λ k. is_some (wrong_pin p k)) (λ s h. none_mapped (wrong_pin p s.leaf.kind) _ (rw chip at h)) p (kept p e).served
+    none_wrong = none_tells (fault_of (OnChip NoSuchPin) p) (λ k. is_some (wrong_pin p k)) (λ s h. none_mapped (wrong_pin p s.leaf.kind) _ (rw chip at h)) p
+        (kept p e).served
 
     clear : AreClear p (all_leaves p.rungs)
     clear = (untold_none p chip).0 (kept p e).pins
@@ -228,7 +246,8 @@ module _ (p : Project) where
           let need = all_of (Needed p fits) (firsts ns) each in
           record {
             each = all_of (λ name. IsSome (of_name name)) (firsts ns) (all_placed (firsts ns) each);
-            apart = λ i j lt gt s. one_place (firsts ns) (firsts_differ [] ns tt) i j lt gt (same_by (bytes_eq (get_or (firsts ns) i []) (get_or (firsts ns) j [])) _ _ refl (need i [] lt) (need j [] gt) s);
+            apart = λ i j lt gt s. one_place (firsts ns) (firsts_differ [] ns tt) i j lt gt
+                (same_by (bytes_eq (get_or (firsts ns) i []) (get_or (firsts ns) j [])) _ _ refl (need i [] lt) (need j [] gt) s);
           }
 
     one_bit_by : (o : Option PortBit) (q r : ℕ) → o ≡ port_bit_at p.target q → is_some o ≡ true → o ≡ port_bit_at p.target r → q ≡ r
@@ -248,11 +267,14 @@ module _ (p : Project) where
 
     pub have_pins : HavePins p (names_of p.rungs)
     have_pins =
-        let bits = λ (ns : Texts) (h : EachOf (Needed p bit_fits) ns). places PortBit (port_bit_at p.target) (λ q r some same. one_bit_by (port_bit_at p.target q) q r refl some same) ns h in
+        let bits = λ (ns : Texts) (h : EachOf (Needed p bit_fits) ns). places PortBit (port_bit_at p.target)
+        (λ q r some same. one_bit_by (port_bit_at p.target q) q r refl some same) ns h in
         record {
           inputs = bits (filter is_input (all_named bit_names (all_leaves p.rungs))) (bits_needed is_input input_only [] (all_leaves p.rungs) refl);
-          outputs = bits (filter is_output (all_named bit_names (all_leaves p.rungs))) (bits_needed is_output (λ n t. or_so (is_input n) (is_output n) t) [] (all_leaves p.rungs) refl);
-          analog = places ℕ (channel_at p.target) (λ q r some same. one_channel_by (channel_at p.target q) q r refl some same) (all_named analog_names (all_leaves p.rungs)) (analog_needed [] (all_leaves p.rungs) refl);
+          outputs = bits (filter is_output (all_named bit_names (all_leaves p.rungs))) (bits_needed is_output (λ n t. or_so (is_input n) (is_output n) t) []
+              (all_leaves p.rungs) refl);
+          analog = places ℕ (channel_at p.target) (λ q r some same. one_channel_by (channel_at p.target q) q r refl some same)
+              (all_named analog_names (all_leaves p.rungs)) (analog_needed [] (all_leaves p.rungs) refl);
         }
 
 few_ports : (t : Target) (k : ℕ) → k < port_count t → k < 5

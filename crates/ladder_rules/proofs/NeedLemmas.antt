@@ -20,9 +20,11 @@ use Rattle.ladder_tree.specs.declared.project.Node.{Node}
 use Rattle.ladder_tree.specs.declared.project.Rung.{Rung}
 use Rattle.ladder_tree.specs.Forms.{forms_of, forms_in, forms_step, forms_of_all}
 use Rattle.ladder_rules.specs.Limits.{IsShort, IsWithinLimits, extent, most_extent}
-use Rattle.ladder_rules.specs.Needs.{row_of_element, steps, fixed, growing, element_cost, cost_step, node_cost, nodes_cost, rungs_cost, total, uses, feature, feature_words}
+use Rattle.ladder_rules.specs.Needs.{row_of_element, steps, fixed, growing, element_cost, cost_step, node_cost, nodes_cost, rungs_cost, total, uses, row_of_feature, feature_cost, feature_words}
 use Rattle.ladder_rules.specs.declared.cost.Column.{Column}
 use Rattle.ladder_rules.specs.declared.cost.Column.TheVariants.{Words, Cycles, Ops}
+use Rattle.ladder_rules.specs.declared.survey.Feature.{Feature}
+use Rattle.ladder_rules.specs.declared.survey.Feature.TheVariants.{Products, Quotients, Persistence, Serial, Analog, Modulation}
 use Rattle.ladder_tree.proofs.FoldLemmas.{fold-Leaf, fold-Series, fold-Parallel}
 
 record IsLow (c : Cost) : Type 0 where
@@ -111,7 +113,15 @@ module _ (c : Column) (t : Target) where
   list_cheap (n ∷ ns) h short =
       let f = h.0 (all_front (leaves n) (leaves_in ns) short) in
       let k = list_cheap ns h.1 (all_back (leaves n) (leaves_in ns) short) in
-      omega (arith, f, k, length-append (leaves n) (leaves_in ns), sum_by-cons (λ x. x) (node_cost c t n) (map (node_cost c t) ns), sum_by-cons (λ x. x) (forms_of n) (map forms_of ns))
+      omega (
+        arith,
+        f,
+        k,
+        length-append (leaves n) (leaves_in ns),
+        sum_by-cons (λ x. x) (node_cost c t n) (map (node_cost c t) ns),
+        sum_by-cons (λ x. x)
+            (forms_of n) (map forms_of ns),
+      )
 
   leaf_cheap : (l : element.Leaf) → All IsShort (l ∷ []) → element_cost c t l.kind + 5000 ≤ 20000 * (1 + 0)
   leaf_cheap l short =
@@ -119,7 +129,9 @@ module _ (c : Column) (t : Target) where
       let g = growing_low c t l.kind (All-head IsShort l [] short) in
       omega (arith, f, g)
 
-  parallel_cheap : (ns : List Node) → Each IsCheap ns → All IsShort (leaves_in ns) → fixed c t cost.Parallel + (fixed c t cost.Branch * length (map (node_cost c t) ns) + nodes_cost c t ns) + 5000 ≤ 20000 * (length (leaves_in ns) + (1 + forms_in ns))
+  parallel_cheap : (ns : List Node) → Each IsCheap ns → All IsShort (leaves_in ns) →
+      fixed c t cost.Parallel + (fixed c t cost.Branch * length (map (node_cost c t) ns) + nodes_cost c t ns) + 5000 ≤ 20000 *
+      (length (leaves_in ns) + (1 + forms_in ns))
   parallel_cheap ns h short =
       let k = list_cheap ns h short in
       let f = fixed_low c t cost.Parallel in
@@ -130,7 +142,8 @@ module _ (c : Column) (t : Target) where
   node_cheap : (n : Node) → IsCheap n
   node_cheap = node_ind IsCheap
       (λ l. rw (fold-Leaf ℕ (cost_step c t) l, fold-Leaf (List element.Leaf) leaves_step l, fold-Leaf ℕ forms_step l) (leaf_cheap l))
-      (λ ns h. rw (fold-Series ℕ (cost_step c t) ns, fold-Series (List element.Leaf) leaves_step ns, fold-Series ℕ forms_step ns) (λ short. let k = list_cheap ns h short in omega (arith, k)))
+      (λ ns h. rw (fold-Series ℕ (cost_step c t) ns, fold-Series (List element.Leaf) leaves_step ns, fold-Series ℕ forms_step ns)
+      (λ short. let k = list_cheap ns h short in omega (arith, k)))
       (λ ns h. rw (fold-Parallel ℕ (cost_step c t) ns, fold-Parallel (List element.Leaf) leaves_step ns, fold-Parallel ℕ forms_step ns) (parallel_cheap ns h))
 
   each_cheap : (ns : List Node) → Each IsCheap ns
@@ -155,15 +168,15 @@ feature_by : (b : Bool) (n : ℕ) → n ≤ 5000 → cond b n 0 ≤ 5000
 feature_by true n h = h
 feature_by false n h = omega arith
 
-feature_low : (t : Target) (ls : List element.Leaf) (k : CostKind) → feature t ls k ≤ 5000
-feature_low t ls k = feature_by (list_any (λ l. uses k l.kind) ls) (fixed Words t k) (fixed_low Words t k)
+feature_low : (t : Target) (ls : List element.Leaf) (f : Feature) → feature_cost t ls f ≤ 5000
+feature_low t ls f = feature_by (list_any (λ l. uses f l.kind) ls) (fixed Words t (row_of_feature f)) (fixed_low Words t (row_of_feature f))
 
 pub features_small : (t : Target) (ls : List element.Leaf) → feature_words t ls ≤ 30000
 features_small t ls =
-    let a = feature_low t ls cost.MulFeature in
-    let b = feature_low t ls cost.DivFeature in
-    let d = feature_low t ls cost.PersistFeature in
-    let e = feature_low t ls cost.UartFeature in
-    let f = feature_low t ls cost.AdcFeature in
-    let g = feature_low t ls cost.PwmFeature in
+    let a = feature_low t ls Products in
+    let b = feature_low t ls Quotients in
+    let d = feature_low t ls Persistence in
+    let e = feature_low t ls Serial in
+    let f = feature_low t ls Analog in
+    let g = feature_low t ls Modulation in
     omega (arith, a, b, d, e, f, g)

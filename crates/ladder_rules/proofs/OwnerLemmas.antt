@@ -9,7 +9,7 @@ use Rattle.std.proofs.lemmas.Grind.{get_or-set_at}
 use Rattle.std.proofs.lemmas.List.{get_or-set_other, length-set, length-replicate}
 use Rattle.std.proofs.lemmas.Slice.Eq.{bytes_eq-Decides}
 use Rattle.ladder_tree.specs.Leaves.{all_leaves}
-use Rattle.ladder_tree.specs.Visit.{visits, goes_on}
+use Rattle.ladder_tree.specs.Visit.{visits, goes_on, seeks, first_given}
 use Rattle.ladder_tree.specs.declared.element.Leaf as element
 use Rattle.ladder_tree.specs.declared.fault.ProjectFault.{ProjectFault}
 use Rattle.ladder_tree.specs.declared.fault.ProjectFault.TheVariants as fault
@@ -17,14 +17,13 @@ use Rattle.ladder_tree.specs.declared.project.PinLine.{PinLine}
 use Rattle.ladder_tree.specs.declared.project.Project.{Project}
 use Rattle.ladder_rules.specs.Owners.{line_from, line_of, is_another, is_anothers, clash, claimed, tried_line, tried, claims}
 use Rattle.ladder_rules.specs.Pins.{pinned, some_pin, pin_of, is_pin, name_at, owner, are_two, twice}
-use Rattle.ladder_rules.specs.Sought.{seeks, first_given}
 use Rattle.ladder_rules.specs.Places.{Placed, all_placed, spots, spots_behind}
 use Rattle.ladder_rules.specs.Verdict.{first_fault}
 use Rattle.ladder_rules.specs.declared.owners.Clash.{Clash}
 use Rattle.ladder_rules.specs.declared.limits.TheConstants.{TABLE_PINS}
 use Rattle.ladder_rules.specs.declared.owners.Owners.{Owners}
 use Rattle.ladder_rules.specs.declared.owners.PinSought.{PinSought}
-use Rattle.ladder_rules.proofs.SoughtLemmas.{given}
+use Rattle.ladder_tree.proofs.SoughtLemmas.{given}
 use Rattle.ladder_rules.proofs.WalkLemmas.{elements, all_kept}
 
 abbrev number_pin : ℕ × ℕ → Option ℕ
@@ -168,7 +167,8 @@ module _ (p : Project) where
     size : length w.1 ≡ TABLE_PINS
     next : w.0 ≡ None → (q : ℕ) → q < TABLE_PINS → get_or w.1 q 0 ≡ num (option_or (owner p.pins q pre) (named q o))
 
-  module _ (line : ℕ) (pre : List element.Leaf) (owners : List ℕ) (size : length owners ≡ TABLE_PINS) (kept : (q : ℕ) → q < TABLE_PINS → get_or owners q 0 ≡ num (owner p.pins q pre)) where
+  module _ (line : ℕ) (pre : List element.Leaf) (owners : List ℕ) (size : length owners ≡ TABLE_PINS) (kept : (q : ℕ) → q < TABLE_PINS →
+      get_or owners q 0 ≡ num (owner p.pins q pre)) where
     -- an element without a pin
     still : (o : Option (List ℕ)) → option_and_then (pin_of p.pins) o ≡ None → Stepped line o pre (None, owners)
     still o e = record {
@@ -230,7 +230,9 @@ module _ (p : Project) where
             next = λ _ q lt. held_by (nat_eq q pin) q m lt refl is;
           }
 
-      near_by : (b : Bool) → pin < TABLE_PINS → nat_eq (get_or owners pin 0) 0 ≡ b → (let w : Bool × List ℕ = cond b (false, set owners pin number) (not (nat_eq (get_or owners pin 0) number), owners) in Stepped line (Some n) pre (then_some w.0 pin, w.1))
+      near_by : (b : Bool) → pin < TABLE_PINS → nat_eq (get_or owners pin 0) 0 ≡ b →
+          (let w : Bool × List ℕ = cond b (false, set owners pin number) (not (nat_eq (get_or owners pin 0) number), owners) in Stepped line (Some n) pre
+          (then_some w.0 pin, w.1))
       near_by true low t = first low (none_at (get_or owners pin 0) t)
         where
           none_at : (k : ℕ) → nat_eq k 0 ≡ true → k ≡ 0
@@ -270,7 +272,10 @@ module _ (p : Project) where
       abbrev IsWhole : Option (List ℕ) → Type 0
       IsWhole o = (q : ℕ) → owner p.pins q (all_leaves p.rungs) ≡ option_or (owner p.pins q pre) (option_or (named q o) (rest q))
 
-      try_by : (a b : Bool) (n : List ℕ) (number pin : ℕ) → line_of p.pins n ≡ Some (number, pin) → nat_eq pin 0 ≡ a → nat_lt pin TABLE_PINS ≡ b → option_and_then number_pin (line_of p.pins n) ≡ pin_of p.pins n → IsWhole (Some n) → Stepped line (Some n) pre (cond a (None, owners) (cond b (then_some (claimed owners pin number).0 pin, (claimed owners pin number).1) (then_some (is_anothers p pin n) pin, owners)))
+      try_by : (a b : Bool) (n : List ℕ) (number pin : ℕ) → line_of p.pins n ≡ Some (number, pin) → nat_eq pin 0 ≡ a → nat_lt pin TABLE_PINS ≡ b →
+          option_and_then number_pin (line_of p.pins n) ≡ pin_of p.pins n → IsWhole (Some n) →
+          Stepped line (Some n) pre (cond a (None, owners) (cond b (then_some (claimed owners pin number).0 pin, (claimed owners pin number).1)
+          (then_some (is_anothers p pin n) pin, owners)))
       try_by true b n number pin is ta tb e whole = still (Some n) (sym e ∙ rw (is, ta) refl)
       try_by false true n number pin is ta tb e whole =
           near_by n number pin is (sym e ∙ rw (is, ta) refl) (nat_eq (get_or owners pin 0) 0) (ltb-true pin TABLE_PINS tb) refl
@@ -294,10 +299,14 @@ module _ (b : Bor Project) where
   abbrev Finds : List element.Leaf → List Placed → List ℕ → Type 0
   Finds pre xs owners = option_map fault_at (visits claims (at owners) (elements xs)).0 ≡ first_fault (twice b.now) (spots_behind pre xs)
 
-  visit_by : (m : Option ℕ × List ℕ) (x : Placed) (xs : List Placed) (pre : List element.Leaf) → Stepped b.now x.leaf.line (pinned x.leaf.kind) pre m → ((t : List ℕ) → length t ≡ TABLE_PINS → Tells (pre ++ x.leaf ∷ []) t → Finds (pre ++ x.leaf ∷ []) xs t) → option_map fault_at (goes_on (option_map (clash x.leaf.line) m.0, at m.1) (λ v. visits claims v (elements xs))).0 ≡ first_fault (twice b.now) (spots_behind pre (x ∷ xs))
+  visit_by : (m : Option ℕ × List ℕ) (x : Placed) (xs : List Placed) (pre : List element.Leaf) → Stepped b.now x.leaf.line (pinned x.leaf.kind) pre m →
+      ((t : List ℕ) → length t ≡ TABLE_PINS → Tells (pre ++ x.leaf ∷ []) t → Finds (pre ++ x.leaf ∷ []) xs t) →
+      option_map fault_at (goes_on (option_map (clash x.leaf.line) m.0, at m.1) (λ v. visits claims v (elements xs))).0 ≡ first_fault (twice b.now)
+      (spots_behind pre (x ∷ xs))
   visit_by (Some pin, t) x xs pre s rest = rw (sym s.fault) refl
   visit_by (None, t) x xs pre s rest =
-      let next = λ (q : ℕ) (lt : q < TABLE_PINS). s.next refl q lt ∙ ap (num b.now) (sym (owner-append b.now q pre (x.leaf ∷ []) ∙ ap (λ u. option_or (owner b.now.pins q pre) u) (or_none (name_at b.now.pins q x.leaf.kind)))) in
+      let next = λ (q : ℕ) (lt : q < TABLE_PINS). s.next refl q lt ∙ ap (num b.now)
+      (sym (owner-append b.now q pre (x.leaf ∷ []) ∙ ap (λ u. option_or (owner b.now.pins q pre) u) (or_none (name_at b.now.pins q x.leaf.kind)))) in
       rw (sym s.fault) (rest t s.size next)
 
   visit_finds : (pre : List element.Leaf) (xs : List Placed) (owners : List ℕ) → length owners ≡ TABLE_PINS → Tells pre owners →
@@ -306,7 +315,8 @@ module _ (b : Bor Project) where
   visit_finds pre (x ∷ xs) owners size kept is =
       let whole = λ (q : ℕ). ap (owner b.now.pins q) is ∙ owner-append b.now q pre (x.leaf ∷ elements xs) in
       let s = step b.now x.leaf.line pre owners size kept (λ q. owner b.now.pins q (elements xs)) (pinned x.leaf.kind) whole in
-      visit_by (tried b.now owners (pinned x.leaf.kind)) x xs pre s (λ t f k. visit_finds (pre ++ x.leaf ∷ []) xs t f k (is ∙ sym (append_assoc pre (x.leaf ∷ []) (elements xs))))
+      visit_by (tried b.now owners (pinned x.leaf.kind)) x xs pre s (λ t f k. visit_finds (pre ++ x.leaf ∷ []) xs t f k
+      (is ∙ sym (append_assoc pre (x.leaf ∷ []) (elements xs))))
 
   none_in : (n q : ℕ) → ◌≡◌ {A = ℕ} (get_or (replicate {A = ℕ} n 0) q 0) 0
   none_in zero q = refl
@@ -314,10 +324,12 @@ module _ (b : Bor Project) where
   none_in (suc n) (suc q) = none_in n q
 
   -- from an empty table, through all elements
-  pub clash_found : option_map fault_at (visits claims (at (replicate {A = ℕ} TABLE_PINS 0)) (all_leaves b.now.rungs)).0 ≡ first_fault (twice b.now) (spots b.now.rungs)
+  pub clash_found : option_map fault_at (visits claims (at (replicate {A = ℕ} TABLE_PINS 0)) (all_leaves b.now.rungs)).0 ≡ first_fault (twice b.now)
+      (spots b.now.rungs)
   clash_found =
       ap (λ ls. option_map fault_at (visits claims (at (replicate {A = ℕ} TABLE_PINS 0)) ls).0) (sym (all_kept b.now.rungs))
-      ∙ visit_finds [] (all_placed b.now.rungs) (replicate {A = ℕ} TABLE_PINS 0) (length-replicate {A = ℕ} TABLE_PINS 0) (λ q lt. none_in TABLE_PINS q) (sym (all_kept b.now.rungs))
+      ∙ visit_finds [] (all_placed b.now.rungs) (replicate {A = ℕ} TABLE_PINS 0) (length-replicate {A = ℕ} TABLE_PINS 0) (λ q lt. none_in TABLE_PINS q)
+      (sym (all_kept b.now.rungs))
 
 -- what the visitor that seeks a pin stops with
 another_by : (v : PinSought) (o : Option (List ℕ)) (rest : Option Bool) (more : Option (List ℕ)) →

@@ -17,7 +17,7 @@ use Rattle.ladder_tree.specs.declared.element.LeafKind.TheVariants.{SetPwm}
 use Rattle.ladder_tree.specs.declared.fault.ProjectFault.{ProjectFault}
 use Rattle.ladder_tree.specs.declared.project.Project.{Project}
 use Rattle.ladder_rules.specs.ChipRules.{lacks_baud, lacks_rate}
-use Rattle.ladder_rules.specs.Kinds.{is_uart, is_pwm, any_uart, any_pwm}
+use Rattle.ladder_tree.specs.Peripherals.{uses_uart, uses_pwm, rate_of, any_uart, any_pwm}
 use Rattle.ladder_rules.specs.Pins.{is_chip}
 use Rattle.ladder_rules.specs.Places.{Placed, Spot, all_placed, spots, spots_behind}
 use Rattle.ladder_rules.specs.Rules.{rate_of, first_rate, fault_of}
@@ -63,7 +63,20 @@ kept p e =
     let n = neither (cycle_range p) _ m.1 in
     let o = neither (offence p (OnChip BaudRange)) _ n.1 in
     let q = neither (offence p (OnChip PwmRange)) (first_of []) o.1 in
-    record { right_ends = a.0; kinds = b.0; timers = c.0; short = d.0; long = f.0; rates = i.0; assigned = j.0; pins = k.0; served = l.0; cycle = n.0; baud = o.0; pwm = q.0 }
+    record {
+      right_ends = a.0;
+      kinds = b.0;
+      timers = c.0;
+      short = d.0;
+      long = f.0;
+      rates = i.0;
+      assigned = j.0;
+      pins = k.0;
+      served = l.0;
+      cycle = n.0;
+      baud = o.0;
+      pwm = q.0;
+    }
 
 or_false : (a b : Bool) → a ≡ false → b ≡ false → (a || b) ≡ false
 or_false a b d e = rw (d, e) refl
@@ -121,9 +134,9 @@ pub on_chip : (chip b : Bool) (f : ProjectFault) → chip ≡ true → cond chip
 on_chip true b f t e = not_so b f e
 on_chip false b f t e = let clash : ⊥ = cc in absurd clash
 
-baud_by : (o : Option BaudSetting) (ls : List element.Leaf) → list_any (λ l. is_uart l.kind && is_none o) ls ≡ false →
+baud_by : (o : Option BaudSetting) (ls : List element.Leaf) → list_any (λ l. uses_uart l.kind && is_none o) ls ≡ false →
     is_some (cond (any_uart ls) o None) ≡ any_uart ls
-baud_by None ls e = let none : any_uart ls ≡ false = sym (and_true (λ l. is_uart l.kind) ls) ∙ e in rw none refl
+baud_by None ls e = let none : any_uart ls ≡ false = sym (and_true (λ l. uses_uart l.kind) ls) ∙ e in rw none refl
 baud_by (Some s) ls e = both (any_uart ls)
   where
     both : (b : Bool) → is_some (cond b (Some s) None) ≡ b
@@ -145,7 +158,7 @@ or_parts true b e = let clash : ⊥ = cc in absurd clash
 
 pwm_kind : (p : Project) (k : LeafKind) (rest : Option ℕ) (more : Bool) → lacks_rate p k ≡ false →
     is_some (option_and_then (pwm_of p.target p.crystal) rest) ≡ more →
-    is_some (option_and_then (pwm_of p.target p.crystal) (option_or (rate_of k) rest)) ≡ (is_pwm k || more)
+    is_some (option_and_then (pwm_of p.target p.crystal) (option_or (rate_of k) rest)) ≡ (uses_pwm k || more)
 pwm_kind p (SetPwm name hz) rest more e f = some_false (pwm_of p.target p.crystal hz) e
 pwm_kind p _ rest more e f = f
 
@@ -161,7 +174,10 @@ pwm_there p e chip =
     pwm_by p (all_leaves p.rungs)
     (none_tells (fault_of (OnChip PwmRange) p) (lacks_rate p) (λ s h. on_chip (is_chip p.target) (lacks_rate p s.leaf.kind) _ chip h) p (kept p e).pwm)
 
-devices_by : (p : Project) (o : Option TimerSetting) → (is_some o ≡ true → (is_some (baud_in p) ≡ any_uart (all_leaves p.rungs)) × (is_some (pwm_in p) ≡ any_pwm (all_leaves p.rungs))) → IfSome (option_map (λ timer. (let s : Settings = record { timer = timer; baud = baud_in p; pwm = pwm_in p } in s)) o) (λ s. (is_some s.baud ≡ any_uart (all_leaves p.rungs)) × (is_some s.pwm ≡ any_pwm (all_leaves p.rungs)))
+devices_by : (p : Project) (o : Option TimerSetting) → (is_some o ≡ true → (is_some (baud_in p) ≡ any_uart (all_leaves p.rungs)) ×
+    (is_some (pwm_in p) ≡ any_pwm (all_leaves p.rungs))) → IfSome (option_map
+    (λ timer. (let s : Settings = record { timer = timer; baud = baud_in p; pwm = pwm_in p } in s)) o) (λ s. (is_some s.baud ≡ any_uart (all_leaves p.rungs)) ×
+    (is_some s.pwm ≡ any_pwm (all_leaves p.rungs)))
 devices_by p None f = tt
 devices_by p (Some t) f = f refl
 

@@ -1,41 +1,18 @@
--- What visitors that look for an element, or count elements, come to.
-use Rattle.std.proofs.Common.{◌≡◌, ℕ, zero, suc, ◌+◌, ◌-◌, ◌<◌, ◌^◌, min, nat_eq, Bool, true, false, ◌||◌, cond, List, [], ◌∷◌, take, Bor, Option, Some, None, refl, ap, ◌∙◌, arith}
-use Rattle.std.specs.Prelude.{is_some}
+-- What the visitors that look for a rate or a timer, and the one that counts off-delay timers, come to.
+use Rattle.std.proofs.Common.{◌≡◌, ℕ, zero, suc, ◌+◌, ◌-◌, ◌<◌, ◌^◌, min, nat_eq, Bool, true, false, cond, List, [], ◌∷◌, take, Bor, Option, Some, None, refl, ap, ◌∙◌, arith}
 use Rattle.std.specs.Bool.{then_some}
-use Rattle.std.specs.List.{list_any}
 use Rattle.std.specs.Option.{option_map, option_and_then, option_or}
 use Rattle.std.proofs.lemmas.Bool.Decides.{nat_tests}
 use Rattle.std.proofs.lemmas.List.Sums.{sum_by-cons}
-use Rattle.ladder_tree.specs.Visit.{goes_on, visits}
+use Rattle.ladder_tree.specs.Peripherals.{rate_of}
+use Rattle.ladder_tree.specs.Visit.{goes_on, visits, seeks, first_given}
 use Rattle.ladder_tree.specs.declared.element.Leaf as element
+use Rattle.ladder_tree.proofs.SoughtLemmas.{given}
 use Rattle.ladder_rules.specs.Needs.{is_tof, tofs_in}
-use Rattle.ladder_rules.specs.Rules.{is_timer_of, first_timer, rate_of, first_rate}
-use Rattle.ladder_rules.specs.Sought.{seeks, seeks_any, first_given, seeks_timer, counts_tofs}
+use Rattle.ladder_rules.specs.Rules.{is_timer_of, first_timer, first_rate}
+use Rattle.ladder_rules.specs.Sought.{seeks_timer, counts_tofs}
 use Rattle.ladder_rules.specs.declared.search.TimerSought.{TimerSought}
 use Rattle.ladder_rules.specs.declared.survey.TofsCounted.{TofsCounted}
-
-module _ {S V : Type 0} (gives : V → element.Leaf → Option S) (v : V) where
-  given_by : (o : Option S) (next : V → Option S × V) (rest : Option S) → (next v).0 ≡ rest → (goes_on (o, v) next).0 ≡ option_or o rest
-  given_by None next rest h = h
-  given_by (Some stop) next rest h = refl
-
-  -- what such a visitor stops with
-  pub given : (ls : List element.Leaf) → (visits (seeks gives) v ls).0 ≡ first_given (gives v) ls
-  given [] = refl
-  given (l ∷ ls) = given_by (gives v l) _ _ (given ls)
-
-some_by : (b : Bool) (o : Option (Unit {0})) (more : Bool) → is_some o ≡ more → is_some (option_or (then_some b tt) o) ≡ (b || more)
-some_by true o more h = refl
-some_by false o more h = h
-
-any_given : (test : element.Leaf → Bool) (ls : List element.Leaf) → is_some (first_given (λ l. then_some {T = Unit {0}} (test l) tt) ls) ≡ list_any test ls
-any_given test [] = refl
-any_given test (l ∷ ls) = some_by (test l) _ _ (any_given test ls)
-
--- whether such a visitor stops
-pub any_found : {V : Type 0} (passes : V → element.Leaf → Bool) (v : V) (ls : List element.Leaf) →
-    is_some (visits (seeks_any passes) v ls).0 ≡ list_any (passes v) ls
-any_found passes v ls = ap is_some (given (λ w l. then_some {T = Unit {0}} (passes w l) tt) v ls) ∙ any_given (passes v) ls
 
 rate_given : (ls : List element.Leaf) → first_given (λ l. rate_of l.kind) ls ≡ first_rate ls
 rate_given [] = refl

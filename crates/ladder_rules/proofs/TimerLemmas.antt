@@ -54,7 +54,8 @@ none_by : (b : Bool) (o : Option element.Leaf) → (b ≡ false → o ≡ None) 
 none_by false o h e = h refl
 none_by true o h e = none_of o (sym e)
 
-module _ (l : element.Leaf) (pre : List element.Leaf) (name : List ℕ) (marks : List Bool) (same : (x : List ℕ) → is_timer_of x l.kind ≡ bytes_eq x name) (cover : Covers marks pre) where
+module _ (l : element.Leaf) (pre : List element.Leaf) (name : List ℕ) (marks : List Bool) (same : (x : List ℕ) → is_timer_of x l.kind ≡ bytes_eq x name)
+    (cover : Covers marks pre) where
   other_mark : (x : List ℕ) → get_or (set marks (mark_of name) true) (mark_of x) false ≡ false → mark_of x ≢ mark_of name
   other_mark x e = λ q.
       let inside : mark_of name < length marks = rw cover.size (mark_small 0 name (omega arith)) in
@@ -115,7 +116,11 @@ module _ (p : Project) (b : Bor (List Rung)) where
   abbrev met : ℕ → List Bool → TimersMet
   met k marks = record { rungs = b; passed = k; marks = marks }
 
-  look_by : (a : Bool × List Bool) (x : Placed) (xs : List Placed) (pre : List element.Leaf) (k : ℕ) (marks : List Bool) → take k (all_leaves b.now) ≡ pre → Covers marks pre → a ≡ admitted (all_leaves b.now) k marks x.leaf.kind → min (k + 1) (2 ^ 32 - 1) ≡ k + 1 → ((m : List Bool) → Covers m (pre ++ x.leaf ∷ []) → (visits looks (met (k + 1) m) (elements xs)).0 ≡ None → first_fault (fault_of TimerTwice p) (spots_behind (pre ++ x.leaf ∷ []) xs) ≡ None) → (goes_on (then_some (not a.0) tt, met (min (k + 1) (2 ^ 32 - 1)) a.1) (λ v. visits looks v (elements xs))).0 ≡ None → first_fault (fault_of TimerTwice p) (spots_behind pre (x ∷ xs)) ≡ None
+  look_by : (a : Bool × List Bool) (x : Placed) (xs : List Placed) (pre : List element.Leaf) (k : ℕ) (marks : List Bool) → take k (all_leaves b.now) ≡ pre →
+      Covers marks pre → a ≡ admitted (all_leaves b.now) k marks x.leaf.kind → min (k + 1) (2 ^ 32 - 1) ≡ k + 1 →
+      ((m : List Bool) → Covers m (pre ++ x.leaf ∷ []) → (visits looks (met (k + 1) m) (elements xs)).0 ≡ None → first_fault (fault_of TimerTwice p)
+      (spots_behind (pre ++ x.leaf ∷ []) xs) ≡ None) → (goes_on (then_some (not a.0) tt, met (min (k + 1) (2 ^ 32 - 1)) a.1)
+      (λ v. visits looks v (elements xs))).0 ≡ None → first_fault (fault_of TimerTwice p) (spots_behind pre (x ∷ xs)) ≡ None
   look_by (false, m) x xs pre k marks before cover is more f e = absurd (some_none e)
   look_by (true, m) x xs pre k marks before cover is more f e =
       let a = admit_kind x.leaf.line x.leaf.kind (all_leaves b.now) pre k marks m before cover is in
@@ -128,12 +133,14 @@ module _ (p : Project) (b : Bor (List Rung)) where
   look_sound pre (x ∷ xs) k marks at few is cover e =
       let before : take k (all_leaves b.now) ≡ pre = rw (at, is) (take-append_seam pre (elements (x ∷ xs))) in
       look_by (admitted (all_leaves b.now) k marks x.leaf.kind) x xs pre k marks before cover refl (omega arith)
-      (λ m c f. look_sound (pre ++ x.leaf ∷ []) xs (k + 1) m (omega (arith, at, length-append pre (x.leaf ∷ []))) (omega arith) (is ∙ sym (append_assoc pre (x.leaf ∷ []) (elements xs))) c f) e
+      (λ m c f. look_sound (pre ++ x.leaf ∷ []) xs (k + 1) m (omega (arith, at, length-append pre (x.leaf ∷ []))) (omega arith)
+      (is ∙ sym (append_assoc pre (x.leaf ∷ []) (elements xs))) c f) e
 
   all_apart : (marks : List Bool) → b.now ≡ p.rungs → length (all_leaves p.rungs) < 2 ^ 32 → length marks ≡ MARKS →
       (visits looks (met 0 marks) (all_leaves p.rungs)).0 ≡ None → offence p TimerTwice ≡ None
   all_apart marks same few size e =
-      look_sound [] (all_placed p.rungs) 0 marks refl (rw (all_kept p.rungs) (omega (arith, few))) (rw same (sym (all_kept p.rungs))) (record { size = size; unset = λ x t. refl }) (ap (λ ls. (visits looks (met 0 marks) ls).0) (all_kept p.rungs) ∙ e)
+      look_sound [] (all_placed p.rungs) 0 marks refl (rw (all_kept p.rungs) (omega (arith, few))) (rw same (sym (all_kept p.rungs)))
+      (record { size = size; unset = λ x t. refl }) (ap (λ ls. (visits looks (met 0 marks) ls).0) (all_kept p.rungs) ∙ e)
 
 -- where the look at all elements stops at none, no two timers have one name
 pub timers_apart : (p : Project) (v : TimersMet) → v.rungs.now ≡ p.rungs → v.passed ≡ 0 → length v.marks ≡ MARKS → length (all_leaves p.rungs) < 2 ^ 32 →

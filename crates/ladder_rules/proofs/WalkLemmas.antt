@@ -67,7 +67,8 @@ module _ (broken : Spot → Option ProjectFault) (all : List element.Leaf) where
   walk_first pre k (x ∷ xs) e h =
       let before : take k all ≡ pre = rw (e, h) (take-append_seam pre (x.leaf ∷ map (λ y. y.leaf) xs)) in
       let spot : Spot = record { leaf = x.leaf; before = pre; at_right_end = x.at_right_end } in
-      let rest = walk_first (pre ++ x.leaf ∷ []) (k + 1) xs (omega (arith, e, length-append pre (x.leaf ∷ []))) (h ∙ sym (append_assoc pre (x.leaf ∷ []) (map (λ y. y.leaf) xs))) in
+      let rest = walk_first (pre ++ x.leaf ∷ []) (k + 1) xs (omega (arith, e, length-append pre (x.leaf ∷ [])))
+      (h ∙ sym (append_assoc pre (x.leaf ∷ []) (map (λ y. y.leaf) xs))) in
       rw before (first_by (broken spot) (walk broken all (k + 1) xs) _ rest)
 
 abbrev pub elements : List Placed → List element.Leaf

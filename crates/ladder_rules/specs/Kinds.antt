@@ -1,33 +1,65 @@
--- Which elements use a device of the chip.
-use Rattle.std.specs.Prelude.{Bool, true, false, List}
-use Rattle.std.specs.List.{list_any}
-use Rattle.ladder_tree.specs.declared.element.Leaf as element
+-- What rules and needs ask of an element's kind.
+use Rattle.std.specs.Prelude.{ℕ, Option, Some, None}
 use Rattle.ladder_tree.specs.declared.element.LeafKind.{LeafKind}
-use Rattle.ladder_tree.specs.declared.element.LeafKind.TheVariants.{ReadAdc, SetPwm, Recv, Send, Persist}
+use Rattle.ladder_tree.specs.declared.element.LeafKind.TheVariants.{Contacts, Coil, Osr, Osf, Short, Open, MasterRelay, Placeholder, Comment, Timer, Counter, Reset, Move, Math, Compare, Shift, Table, ReadAdc, SetPwm, Recv, Send, Persist, Linear, Formatted}
+use Rattle.ladder_tree.specs.declared.element.MathHow.{MathHow}
+use Rattle.ladder_tree.specs.declared.element.TimerHow.{TimerHow}
 
--- the pulse-width modulator
-abbrev pub is_pwm : LeafKind → Bool
-is_pwm (SetPwm name hz) = true
-is_pwm _ = false
+-- a timer's kind and name, and its delay in microseconds
+pub record Timing : Type 0 where
+  pub how : TimerHow
+  pub name : List ℕ
+  pub delay : ℕ
 
--- the EEPROM
-abbrev pub is_persist : LeafKind → Bool
-is_persist (Persist name) = true
-is_persist _ = false
+abbrev pub timing_of : LeafKind → Option Timing
+timing_of (Contacts name neg) = None
+timing_of (Coil name mode) = None
+timing_of Osr = None
+timing_of Osf = None
+timing_of Short = None
+timing_of Open = None
+timing_of MasterRelay = None
+timing_of Placeholder = None
+timing_of (Comment text) = None
+timing_of (Timer how name delay) = Some (record { how = how; name = name; delay = delay })
+timing_of (Counter how name max) = None
+timing_of (Reset name) = None
+timing_of (Move dest src) = None
+timing_of (Math how dest a b) = None
+timing_of (Compare how a b) = None
+timing_of (Shift name places) = None
+timing_of (Table dest index as_text values) = None
+timing_of (ReadAdc name) = None
+timing_of (SetPwm name hz) = None
+timing_of (Recv name) = None
+timing_of (Send name) = None
+timing_of (Persist name) = None
+timing_of (Linear dest index points) = None
+timing_of (Formatted name text) = None
 
--- the serial port
-abbrev pub is_uart : LeafKind → Bool
-is_uart (Recv name) = true
-is_uart (Send name) = true
-is_uart _ = false
-
--- the analog-to-digital converter
-abbrev pub is_adc : LeafKind → Bool
-is_adc (ReadAdc name) = true
-is_adc _ = false
-
-abbrev pub any_uart : List element.Leaf → Bool
-any_uart ls = list_any (λ l. is_uart l.kind) ls
-
-abbrev pub any_pwm : List element.Leaf → Bool
-any_pwm ls = list_any (λ l. is_pwm l.kind) ls
+-- what arithmetic an element does
+abbrev pub math_of : LeafKind → Option MathHow
+math_of (Contacts name neg) = None
+math_of (Coil name mode) = None
+math_of Osr = None
+math_of Osf = None
+math_of Short = None
+math_of Open = None
+math_of MasterRelay = None
+math_of Placeholder = None
+math_of (Comment text) = None
+math_of (Timer how name delay) = None
+math_of (Counter how name max) = None
+math_of (Reset name) = None
+math_of (Move dest src) = None
+math_of (Math how dest a b) = Some how
+math_of (Compare how a b) = None
+math_of (Shift name places) = None
+math_of (Table dest index as_text values) = None
+math_of (ReadAdc name) = None
+math_of (SetPwm name hz) = None
+math_of (Recv name) = None
+math_of (Send name) = None
+math_of (Persist name) = None
+math_of (Linear dest index points) = None
+math_of (Formatted name text) = None

@@ -4,15 +4,36 @@ use Rattle.ladder_tree.specs.Forms.{forms_of_all}
 use Rattle.ladder_tree.specs.Leaves.{all_leaves}
 use Rattle.ladder_tree.specs.declared.element.Leaf as element
 use Rattle.ladder_tree.specs.declared.element.LeafKind.{LeafKind}
-use Rattle.ladder_tree.specs.declared.element.LeafKind.TheVariants.{Shift, Table}
+use Rattle.ladder_tree.specs.declared.element.LeafKind.TheVariants.{Contacts, Coil, Osr, Osf, Short, Open, MasterRelay, Placeholder, Comment, Timer, Counter, Reset, Move, Math, Compare, Shift, Table, ReadAdc, SetPwm, Recv, Send, Persist, Linear, Formatted}
 use Rattle.ladder_tree.specs.declared.limits.TheConstants.{RUNGS, ELEMENTS, OPENINGS, SHIFT_PLACES, TABLE_VALUES}
 use Rattle.ladder_tree.specs.declared.project.Rung.{Rung}
 
 -- how many places or values an element has
 abbrev pub extent : LeafKind → ℕ
+extent (Contacts name neg) = 0
+extent (Coil name mode) = 0
+extent Osr = 0
+extent Osf = 0
+extent Short = 0
+extent Open = 0
+extent MasterRelay = 0
+extent Placeholder = 0
+extent (Comment text) = 0
+extent (Timer how name delay) = 0
+extent (Counter how name max) = 0
+extent (Reset name) = 0
+extent (Move dest src) = 0
+extent (Math how dest a b) = 0
+extent (Compare how a b) = 0
 extent (Shift name places) = places
 extent (Table dest index as_text values) = length values
-extent _ = 0
+extent (ReadAdc name) = 0
+extent (SetPwm name hz) = 0
+extent (Recv name) = 0
+extent (Send name) = 0
+extent (Persist name) = 0
+extent (Linear dest index points) = 0
+extent (Formatted name text) = 0
 
 -- the most places of a shift register, and values of a table
 abbrev pub most_extent : ℕ

@@ -1,12 +1,14 @@
 -- What a project needs at most: words of program flash, instruction cycles in a cycle of the ladder and before the first.
-use Rattle.std.specs.Prelude.{ℕ, ◌+◌, ◌-◌, ◌*◌, Bool, true, false, if◌then◌else◌, List, [], ◌∷◌, length, sum, map}
+use Rattle.std.specs.Prelude.{ℕ, ◌+◌, ◌-◌, ◌*◌, Bool, true, false, ◌||◌, if◌then◌else◌, List, [], ◌∷◌, length, sum, map}
 use Rattle.std.specs.List.{list_any, count_by}
+use Rattle.std.specs.Option.{option_map_or}
 use Rattle.chip_tables.specs.Cost.{cost_of}
 use Rattle.chip_tables.specs.declared.cost_kind.CostKind.{CostKind}
 use Rattle.chip_tables.specs.declared.cost_kind.CostKind.TheVariants as cost
 use Rattle.chip_tables.specs.declared.target.Target.{Target}
 use Rattle.chip_tables.specs.declared.target.Target.TheVariants.{F628, F877, Mega16, Interp, AnsiC}
 use Rattle.ladder_tree.specs.Leaves.{all_leaves}
+use Rattle.ladder_tree.specs.Peripherals.{uses_adc, uses_uart, uses_eeprom, uses_pwm}
 use Rattle.ladder_tree.specs.declared.element.Leaf as element
 use Rattle.ladder_tree.specs.declared.element.LeafKind.{LeafKind}
 use Rattle.ladder_tree.specs.declared.element.LeafKind.TheVariants.{Contacts, Coil, Osr, Osf, Short, Open, MasterRelay, Placeholder, Comment, Timer, Counter, Reset, Move, Math, Compare, Shift, Table, ReadAdc, SetPwm, Recv, Send, Persist, Linear, Formatted}
@@ -19,11 +21,13 @@ use Rattle.ladder_tree.specs.declared.project.Node.TheOpen.{Node-F}
 use Rattle.ladder_tree.specs.declared.project.Node.TheFolds.{fold-Node}
 use Rattle.ladder_tree.specs.declared.project.Project.{Project}
 use Rattle.ladder_tree.specs.declared.project.Rung.{Rung}
-use Rattle.ladder_rules.specs.Kinds.{is_pwm, is_persist, is_uart, is_adc}
+use Rattle.ladder_rules.specs.Kinds.{timing_of, math_of}
 use Rattle.ladder_rules.specs.Limits.{extent}
 use Rattle.ladder_rules.specs.declared.limits.TheConstants.{F628_BOOT, F877_BOOT, MEGA16_BOOT, TOF_BOOT}
 use Rattle.ladder_rules.specs.declared.cost.Column.{Column}
 use Rattle.ladder_rules.specs.declared.cost.Column.TheVariants.{Words, Cycles, Ops}
+use Rattle.ladder_rules.specs.declared.survey.Feature.{Feature}
+use Rattle.ladder_rules.specs.declared.survey.Feature.TheVariants.{Products, Quotients, Persistence, Serial, Analog, Modulation}
 
 abbrev pub timer_row : TimerHow → CostKind
 timer_row Ton = cost.TonRto
@@ -105,32 +109,44 @@ rungs_cost c t (g ∷ gs) = fixed c t cost.Rung + (nodes_cost c t g.nodes + rung
 abbrev pub total : Column → Target → List Rung → ℕ
 total c t gs = fixed c t cost.Base + rungs_cost c t gs
 
-abbrev pub has_mul : LeafKind → Bool
-has_mul (Math Mul dest a b) = true
-has_mul k = is_pwm k
+abbrev pub is_mul : MathHow → Bool
+is_mul Add = false
+is_mul Sub = false
+is_mul Mul = true
+is_mul Div = false
 
-abbrev pub has_div : LeafKind → Bool
-has_div (Math Div dest a b) = true
-has_div k = is_pwm k
+abbrev pub is_div : MathHow → Bool
+is_div Add = false
+is_div Sub = false
+is_div Mul = false
+is_div Div = true
 
--- which elements make a feature's words count, once for all of them
-abbrev pub uses : CostKind → LeafKind → Bool
-uses cost.MulFeature k = has_mul k
-uses cost.DivFeature k = has_div k
-uses cost.PersistFeature k = is_persist k
-uses cost.UartFeature k = is_uart k
-uses cost.AdcFeature k = is_adc k
-uses cost.PwmFeature k = is_pwm k
-uses _ k = false
+-- which elements make a feature's words count, once for all of them; a SET_PWM multiplies and divides
+abbrev pub uses : Feature → LeafKind → Bool
+uses Products k = option_map_or is_mul (math_of k) false || uses_pwm k
+uses Quotients k = option_map_or is_div (math_of k) false || uses_pwm k
+uses Persistence k = uses_eeprom k
+uses Serial k = uses_uart k
+uses Analog k = uses_adc k
+uses Modulation k = uses_pwm k
 
-abbrev pub feature : Target → List element.Leaf → CostKind → ℕ
-feature t ls f = if list_any (λ l. uses f l.kind) ls then fixed Words t f else 0
+-- a feature's row in the table of costs
+abbrev pub row_of_feature : Feature → CostKind
+row_of_feature Products = cost.MulFeature
+row_of_feature Quotients = cost.DivFeature
+row_of_feature Persistence = cost.PersistFeature
+row_of_feature Serial = cost.UartFeature
+row_of_feature Analog = cost.AdcFeature
+row_of_feature Modulation = cost.PwmFeature
 
-abbrev pub features : List CostKind
-features = cost.MulFeature ∷ cost.DivFeature ∷ cost.PersistFeature ∷ cost.UartFeature ∷ cost.AdcFeature ∷ cost.PwmFeature ∷ []
+abbrev pub feature_cost : Target → List element.Leaf → Feature → ℕ
+feature_cost t ls f = if list_any (λ l. uses f l.kind) ls then fixed Words t (row_of_feature f) else 0
+
+abbrev pub features : List Feature
+features = Products ∷ Quotients ∷ Persistence ∷ Serial ∷ Analog ∷ Modulation ∷ []
 
 abbrev pub feature_words : Target → List element.Leaf → ℕ
-feature_words t ls = sum (map (feature t ls) features)
+feature_words t ls = sum (map (feature_cost t ls) features)
 
 -- words of program flash; a target that is no chip has none
 abbrev pub word_need : Project → ℕ
@@ -147,9 +163,13 @@ cycle_cap_on AnsiC gs = 0
 abbrev pub cycle_cap : Project → ℕ
 cycle_cap p = cycle_cap_on p.target p.rungs
 
+abbrev pub is_off_delay : TimerHow → Bool
+is_off_delay Ton = false
+is_off_delay Tof = true
+is_off_delay Rto = false
+
 abbrev pub is_tof : LeafKind → Bool
-is_tof (Timer Tof name delay) = true
-is_tof _ = false
+is_tof k = option_map_or (λ t. is_off_delay t.how) (timing_of k) false
 
 abbrev pub tofs_in : List element.Leaf → ℕ
 tofs_in ls = count_by (λ l. is_tof l.kind) ls

@@ -9,6 +9,7 @@ use Rattle.chip_tables.specs.declared.target.Target.{Target}
 use Rattle.chip_tables.specs.declared.target.Target.TheVariants.{F628, F877, Mega16, Interp, AnsiC}
 use Rattle.ladder_tree.specs.Leaves.{all_leaves}
 use Rattle.ladder_tree.specs.Names.{is_input, is_output}
+use Rattle.ladder_tree.specs.Peripherals.{uses_adc, any_uart, any_pwm}
 use Rattle.ladder_tree.specs.declared.element.Leaf as element
 use Rattle.ladder_tree.specs.declared.element.LeafKind.{LeafKind}
 use Rattle.ladder_tree.specs.declared.element.LeafKind.TheVariants.{Contacts, Coil, Osr, Osf, Short, Open, MasterRelay, Placeholder, Comment, Timer, Counter, Reset, Move, Math, Compare, Shift, Table, ReadAdc, SetPwm, Recv, Send, Persist, Linear, Formatted}
@@ -16,7 +17,6 @@ use Rattle.ladder_tree.specs.declared.fault.ProjectFault.{ProjectFault}
 use Rattle.ladder_tree.specs.declared.fault.ProjectFault.TheVariants as fault
 use Rattle.ladder_tree.specs.declared.project.PinLine.{PinLine}
 use Rattle.ladder_tree.specs.declared.project.Project.{Project}
-use Rattle.ladder_rules.specs.Kinds.{any_uart, any_pwm}
 use Rattle.ladder_rules.specs.Places.{Spot}
 
 abbrev pub is_chip : Target → Bool
@@ -72,8 +72,7 @@ is_unassigned pins k = is_some (pinned k) && is_none (pin_at pins k)
 
 -- whether a pin of the chip is one for the element: an analog input for an analog name, an I/O pin for a bit
 abbrev pub serves : Target → LeafKind → ℕ → Bool
-serves t (ReadAdc name) pin = is_some (channel_at t pin)
-serves t _ pin = is_some (port_bit_at t pin)
+serves t k pin = if uses_adc k then is_some (channel_at t pin) else is_some (port_bit_at t pin)
 
 abbrev pub is_pin : ℕ → Option ℕ → Bool
 is_pin pin None = false
@@ -101,8 +100,9 @@ owner pins pin [] = None
 owner pins pin (l ∷ ls) = option_or (name_at pins pin l.kind) (owner pins pin ls)
 
 abbrev pub are_two : Option (List ℕ) → Option (List ℕ) → Bool
+are_two None other = false
+are_two (Some name) None = false
 are_two (Some name) (Some other) = not (bytes_eq name other)
-are_two _ _ = false
 
 -- The fault of an element whose pin an earlier name has. The first such element is where its name first appears.
 abbrev pub twice : Project → Spot → Option ProjectFault

@@ -7,7 +7,7 @@ use Rattle.chip_tables.specs.declared.settings.BaudSetting.{BaudSetting}
 use Rattle.chip_tables.specs.declared.settings.PwmSetting.{PwmSetting}
 use Rattle.ladder_tree.specs.Leaves.{all_leaves}
 use Rattle.ladder_tree.specs.declared.project.Project.{Project}
-use Rattle.ladder_rules.specs.Kinds.{any_uart}
+use Rattle.ladder_tree.specs.Peripherals.{any_uart}
 use Rattle.ladder_rules.specs.Rules.{first_rate}
 
 -- of the serial port, where an element uses it

@@ -3,11 +3,11 @@
 ghost use Rattle.std.specs.Prelude.{◌≡◌};
 ghost use Rattle.ladder_rules.specs.ChipRules.{lacks_adc, lacks_pwm, lacks_baud, lacks_rate, chip_fault};
 
-use crate::kinds::{is_adc, is_pwm, is_uart};
 use crate::pins::{is_unassigned, taken_pin, wrong_pin};
 use chip_tables::{Target, baud_setting, pwm_pin, pwm_setting};
 use ladder_tree::element::{Leaf, LeafKind};
 use ladder_tree::fault::ProjectFault;
+use ladder_tree::peripheral::{rate_of, uses_adc, uses_pwm, uses_uart};
 use ladder_tree::project::Project;
 
 /// A rule that each element keeps or breaks where the target is a chip. Its fault has its name.
@@ -55,7 +55,7 @@ fn lacks_adc(target: Target, kind: &LeafKind) -> bool
 {
     match target {
         Target::F877 | Target::Mega16 => false,
-        Target::F628 | Target::Interp | Target::AnsiC => is_adc(kind),
+        Target::F628 | Target::Interp | Target::AnsiC => uses_adc(kind),
     }
 }
 
@@ -63,22 +63,22 @@ fn lacks_adc(target: Target, kind: &LeafKind) -> bool
 fn lacks_pwm(target: Target, kind: &LeafKind) -> bool
     ensures { result ≡ lacks_pwm target kind.now }
 {
-    is_pwm(kind) && pwm_pin(target).is_none()
+    uses_pwm(kind) && pwm_pin(target).is_none()
 }
 
 /// Whether it uses the serial port, and the chip cannot make the rate.
 fn lacks_baud(project: &Project, kind: &LeafKind) -> bool
     ensures { result ≡ lacks_baud project.now kind.now }
 {
-    is_uart(kind) && baud_setting(project.target, project.crystal, project.baud).is_none()
+    uses_uart(kind) && baud_setting(project.target, project.crystal, project.baud).is_none()
 }
 
 /// Whether it sets the pulse-width modulator, and the chip cannot make the rate.
 fn lacks_rate(project: &Project, kind: &LeafKind) -> bool
     ensures { result ≡ lacks_rate project.now kind.now }
 {
-    match kind {
-        LeafKind::SetPwm { hz, .. } => pwm_setting(project.target, project.crystal, *hz).is_none(),
-        _ => false,
+    match rate_of(kind) {
+        Some(hz) => pwm_setting(project.target, project.crystal, hz).is_none(),
+        None => false,
     }
 }

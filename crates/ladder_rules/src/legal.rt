@@ -5,7 +5,7 @@ ghost use Rattle.std.specs.Bool.{then_some};
 ghost use Rattle.std.specs.List.{list_all};
 ghost use Rattle.ladder_tree.specs.Leaves.{all_leaves};
 ghost use Rattle.ladder_tree.specs.Names.{names_of, has_kind};
-ghost use Rattle.ladder_rules.specs.Kinds.{any_pwm, any_uart};
+ghost use Rattle.ladder_tree.specs.Peripherals.{any_pwm, any_uart};
 ghost use Rattle.ladder_rules.specs.Limits.{IsWithinLimits};
 ghost use Rattle.ladder_rules.specs.Pins.{is_chip};
 ghost use Rattle.ladder_rules.specs.Settings.{settings_of};

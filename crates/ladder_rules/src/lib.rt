@@ -4,7 +4,6 @@
 mod assigned;
 mod chip_rule;
 mod cost;
-mod kinds;
 pub mod laws;
 mod legal;
 mod limits;

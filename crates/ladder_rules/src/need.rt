@@ -2,13 +2,13 @@
 
 ghost use Rattle.std.specs.Prelude.{◌≡◌};
 ghost use Rattle.ladder_tree.specs.Leaves.{all_leaves};
-ghost use Rattle.ladder_rules.specs.Needs.{feature, feature_words, word_need, cycle_cap, boot_cap};
+ghost use Rattle.ladder_rules.specs.Needs.{feature_cost, feature_words, word_need, cycle_cap, boot_cap};
 
 use crate::cost::{Column, fixed, total};
 use crate::legal::Legal;
 use crate::limits::{F628_BOOT, F877_BOOT, MEGA16_BOOT, TOF_BOOT};
-use crate::survey::{any_uses, count_tofs};
-use chip_tables::{CostKind, Target};
+use crate::survey::{Feature, any_uses, count_tofs, row_of_feature};
+use chip_tables::Target;
 use ladder_tree::project::Project;
 
 /// The most words of program flash that a chip's code has: 0 where the target is no chip. It takes no memory.
@@ -23,20 +23,20 @@ pub fn word_need(legal: &Legal) -> u32
 fn feature_words(project: &Project) -> u32
     ensures { result ≡ feature_words project.now.target (all_leaves project.now.rungs) }
 {
-    feature(CostKind::MulFeature, project)
-        + (feature(CostKind::DivFeature, project)
-            + (feature(CostKind::PersistFeature, project)
-                + (feature(CostKind::UartFeature, project)
-                    + (feature(CostKind::AdcFeature, project)
-                        + feature(CostKind::PwmFeature, project)))))
+    feature_cost(Feature::Products, project)
+        + (feature_cost(Feature::Quotients, project)
+            + (feature_cost(Feature::Persistence, project)
+                + (feature_cost(Feature::Serial, project)
+                    + (feature_cost(Feature::Analog, project)
+                        + feature_cost(Feature::Modulation, project)))))
 }
 
 /// The words of a feature, where the project uses it.
-fn feature(row: CostKind, project: &Project) -> u32
-    ensures { result ≡ feature project.now.target (all_leaves project.now.rungs) row }
+fn feature_cost(feature: Feature, project: &Project) -> u32
+    ensures { result ≡ feature_cost project.now.target (all_leaves project.now.rungs) feature }
 {
-    if any_uses(row, project.rungs.as_slice()) {
-        fixed(Column::Words, project.target, row)
+    if any_uses(feature, project.rungs.as_slice()) {
+        fixed(Column::Words, project.target, row_of_feature(feature))
     } else {
         0
     }

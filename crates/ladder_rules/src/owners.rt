@@ -3,7 +3,7 @@
 ghost use Rattle.std.specs.Prelude.{◌≡◌, ◌<◌, Some};
 ghost use Rattle.ladder_tree.specs.declared.fault.ProjectFault.TheVariants as fault;
 ghost use Rattle.ladder_rules.specs.Owners.{line_of, is_another, is_anothers, claimed, tried, claims};
-ghost use Rattle.ladder_rules.specs.Sought.{seeks};
+ghost use Rattle.ladder_tree.specs.Visit.{seeks};
 ghost use Rattle.ladder_rules.specs.declared.limits.TheConstants.{TABLE_PINS};
 ghost use Rattle.ladder_rules.specs.Verdict.{pin_twice};
 

@@ -5,10 +5,11 @@ ghost use Rattle.std.specs.Option.{option_map};
 ghost use Rattle.ladder_tree.specs.Leaves.{all_leaves};
 ghost use Rattle.ladder_rules.specs.Pins.{is_chip, pinned, pin_of, pin_at, name_at, is_unassigned, wrong_pin, taken_pin, serves, is_pin, is_taken};
 
-use crate::survey::any_uses;
-use chip_tables::{CostKind, Target, adc_channel, pin_of as port_bit, pwm_pin, rx_pin, tx_pin};
+use crate::survey::{Feature, any_uses};
+use chip_tables::{Target, adc_channel, pin_of as port_bit, pwm_pin, rx_pin, tx_pin};
 use ladder_tree::element::{LeafKind, Name};
 use ladder_tree::names::begins_with;
+use ladder_tree::peripheral::uses_adc;
 use ladder_tree::project::{PinLine, Project};
 
 /// Whether code for the target runs on a chip itself.
@@ -116,17 +117,18 @@ fn is_taken(project: &Project, pin: u16) -> bool
     let rungs = project.rungs.as_slice();
     let is_serial = is_pin(pin, rx_pin(target)) || is_pin(pin, tx_pin(target));
     let is_pulse = is_pin(pin, pwm_pin(target));
-    (is_serial && any_uses(CostKind::UartFeature, rungs))
-        || (is_pulse && any_uses(CostKind::PwmFeature, rungs))
+    (is_serial && any_uses(Feature::Serial, rungs))
+        || (is_pulse && any_uses(Feature::Modulation, rungs))
 }
 
 /// Whether a pin of the chip is one for an element.
 fn serves(target: Target, kind: &LeafKind, pin: u16) -> bool
     ensures { result ≡ serves target kind.now pin }
 {
-    match kind {
-        LeafKind::ReadAdc { .. } => adc_channel(target, pin).is_some(),
-        _ => port_bit(target, pin).is_some(),
+    if uses_adc(kind) {
+        adc_channel(target, pin).is_some()
+    } else {
+        port_bit(target, pin).is_some()
     }
 }
 

@@ -3,7 +3,8 @@
 ghost use Rattle.std.specs.Prelude.{◌≡◌, take};
 ghost use Rattle.std.specs.Option.{option_map};
 ghost use Rattle.ladder_tree.specs.Leaves.{all_leaves};
-ghost use Rattle.ladder_rules.specs.Rules.{ends_rung, is_of_kind, earlier_timer, is_short, is_long, rate_of, are_apart, fault_of};
+ghost use Rattle.ladder_tree.specs.Peripherals.{rate_of};
+ghost use Rattle.ladder_rules.specs.Rules.{ends_rung, is_of_kind, earlier_timer, is_short, is_long, are_apart, fault_of};
 ghost use Rattle.ladder_rules.specs.Pins.{is_chip};
 ghost use Rattle.ladder_rules.specs.Rules.{first_rate as rate_in};
 ghost use Rattle.ladder_rules.specs.Walk.{spot_at};
@@ -15,6 +16,7 @@ use crate::search::{first_rate, first_timer};
 use ladder_tree::element::{CounterHow, Leaf, LeafKind};
 use ladder_tree::fault::ProjectFault;
 use ladder_tree::names::begins_with;
+use ladder_tree::peripheral::rate_of;
 use ladder_tree::project::Project;
 
 /// A rule that each element keeps or breaks. Its fault has its name.
@@ -159,8 +161,8 @@ fn is_long(cycle: u32, kind: &LeafKind) -> bool
 fn has_other_rate(first: Option<u32>, kind: &LeafKind) -> bool
     ensures { result ≡ are_apart (rate_of kind.now) first }
 {
-    match (kind, first) {
-        (LeafKind::SetPwm { hz, .. }, Some(first)) => *hz != first,
+    match (rate_of(kind), first) {
+        (Some(hz), Some(first)) => hz != first,
         _ => false,
     }
 }

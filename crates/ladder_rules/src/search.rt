@@ -3,10 +3,13 @@
 ghost use Rattle.std.specs.Prelude.{◌≡◌, take};
 ghost use Rattle.std.specs.Option.{option_map};
 ghost use Rattle.ladder_tree.specs.Leaves.{all_leaves};
-ghost use Rattle.ladder_rules.specs.Rules.{is_timer_of, first_timer, rate_of, first_rate};
-ghost use Rattle.ladder_rules.specs.Sought.{seeks, seeks_timer};
+ghost use Rattle.ladder_tree.specs.Peripherals.{rate_of};
+ghost use Rattle.ladder_tree.specs.Visit.{seeks};
+ghost use Rattle.ladder_rules.specs.Rules.{is_timer_of, first_timer, first_rate};
+ghost use Rattle.ladder_rules.specs.Sought.{seeks_timer};
 
 use ladder_tree::element::{Leaf, LeafKind, Name};
+use ladder_tree::peripheral::rate_of;
 use ladder_tree::project::Rung;
 use ladder_tree::visit::{Visitor, visit_all};
 
@@ -62,16 +65,6 @@ impl Visitor for RateSought {
 
     fn visit(&mut self, leaf: &Leaf) -> Option<u32> {
         rate_of(&leaf.kind)
-    }
-}
-
-/// The hertz of a SET_PWM.
-fn rate_of(kind: &LeafKind) -> Option<u32>
-    ensures { result ≡ rate_of kind.now }
-{
-    match kind {
-        LeafKind::SetPwm { hz, .. } => Some(*hz),
-        _ => None,
     }
 }
 

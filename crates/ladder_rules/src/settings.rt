@@ -4,10 +4,8 @@ ghost use Rattle.std.specs.Prelude.{◌≡◌};
 ghost use Rattle.ladder_rules.specs.Settings.{baud_in, pwm_in, settings_of};
 
 use crate::search::first_rate;
-use crate::survey::any_uses;
-use chip_tables::{
-    BaudSetting, CostKind, PwmSetting, Settings, baud_setting, pwm_setting, timer_setting,
-};
+use crate::survey::{Feature, any_uses};
+use chip_tables::{BaudSetting, PwmSetting, Settings, baud_setting, pwm_setting, timer_setting};
 use ladder_tree::project::Project;
 
 /// The settings for a project, where the target's timer can make its cycle.
@@ -26,7 +24,7 @@ pub fn settings_of(project: &Project) -> Option<Settings>
 fn baud_in(project: &Project) -> Option<BaudSetting>
     ensures { result ≡ baud_in project.now }
 {
-    if any_uses(CostKind::UartFeature, project.rungs.as_slice()) {
+    if any_uses(Feature::Serial, project.rungs.as_slice()) {
         baud_setting(project.target, project.crystal, project.baud)
     } else {
         None

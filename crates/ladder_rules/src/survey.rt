@@ -3,46 +3,71 @@
 ghost use Rattle.std.specs.Prelude.{◌≡◌, ◌^◌, ◌<◌};
 ghost use Rattle.std.specs.List.{list_any};
 ghost use Rattle.ladder_tree.specs.Leaves.{all_leaves};
-ghost use Rattle.ladder_rules.specs.Needs.{uses, has_mul, has_div, is_tof, tofs_in};
-ghost use Rattle.ladder_rules.specs.Sought.{seeks_any, counts_tofs};
+ghost use Rattle.std.specs.Option.{option_map_or};
+ghost use Rattle.ladder_tree.specs.Visit.{seeks_any};
+ghost use Rattle.ladder_rules.specs.Kinds.{math_of};
+ghost use Rattle.ladder_rules.specs.Needs.{is_mul, is_div, uses, row_of_feature, is_tof, tofs_in};
+ghost use Rattle.ladder_rules.specs.Sought.{counts_tofs};
 
-use crate::kinds::{is_adc, is_persist, is_pwm, is_uart};
 use chip_tables::CostKind;
 use ladder_tree::element::{Leaf, LeafKind, MathHow, TimerHow};
+use ladder_tree::peripheral::{uses_adc, uses_eeprom, uses_pwm, uses_uart};
 use ladder_tree::project::Rung;
 use ladder_tree::visit::{Visitor, visit_all};
 
+/// What makes words count once for all elements that use it.
+#[derive(Clone, Copy)]
+pub enum Feature {
+    Products,
+    Quotients,
+    Persistence,
+    Serial,
+    Analog,
+    Modulation,
+}
+
+/// A feature's row in the table of costs.
+pub fn row_of_feature(feature: Feature) -> CostKind
+    ensures { result ≡ row_of_feature feature }
+{
+    match feature {
+        Feature::Products => CostKind::MulFeature,
+        Feature::Quotients => CostKind::DivFeature,
+        Feature::Persistence => CostKind::PersistFeature,
+        Feature::Serial => CostKind::UartFeature,
+        Feature::Analog => CostKind::AdcFeature,
+        Feature::Modulation => CostKind::PwmFeature,
+    }
+}
+
 /// Whether an element makes a feature's words count.
-fn uses(feature: CostKind, kind: &LeafKind) -> bool
+fn uses(feature: Feature, kind: &LeafKind) -> bool
     ensures { result ≡ uses feature kind.now }
 {
     match feature {
-        CostKind::MulFeature => has_mul(kind),
-        CostKind::DivFeature => has_div(kind),
-        CostKind::PersistFeature => is_persist(kind),
-        CostKind::UartFeature => is_uart(kind),
-        CostKind::AdcFeature => is_adc(kind),
-        CostKind::PwmFeature => is_pwm(kind),
-        _ => false,
+        Feature::Products => multiplies(kind) || uses_pwm(kind),
+        Feature::Quotients => divides(kind) || uses_pwm(kind),
+        Feature::Persistence => uses_eeprom(kind),
+        Feature::Serial => uses_uart(kind),
+        Feature::Analog => uses_adc(kind),
+        Feature::Modulation => uses_pwm(kind),
     }
 }
 
-fn has_mul(kind: &LeafKind) -> bool
-    ensures { result ≡ has_mul kind.now }
+fn multiplies(kind: &LeafKind) -> bool
+    ensures { result ≡ option_map_or is_mul (math_of kind.now) false }
 {
     match kind {
         LeafKind::Math { how, .. } => matches!(how, MathHow::Mul),
-        LeafKind::SetPwm { .. } => true,
         _ => false,
     }
 }
 
-fn has_div(kind: &LeafKind) -> bool
-    ensures { result ≡ has_div kind.now }
+fn divides(kind: &LeafKind) -> bool
+    ensures { result ≡ option_map_or is_div (math_of kind.now) false }
 {
     match kind {
         LeafKind::Math { how, .. } => matches!(how, MathHow::Div),
-        LeafKind::SetPwm { .. } => true,
         _ => false,
     }
 }
@@ -50,7 +75,7 @@ fn has_div(kind: &LeafKind) -> bool
 /// Stops at the first element that makes a feature's words count.
 #[derive(Clone, Copy)]
 struct UseSought {
-    feature: CostKind,
+    feature: Feature,
 }
 
 impl Visitor for UseSought {
@@ -64,7 +89,7 @@ impl Visitor for UseSought {
 }
 
 /// Whether any element makes a feature's words count.
-pub fn any_uses(feature: CostKind, rungs: &[Rung]) -> bool
+pub fn any_uses(feature: Feature, rungs: &[Rung]) -> bool
     ensures { result ≡ list_any (λ l. uses feature l.kind) (all_leaves rungs.now) }
 {
     visit_all(&mut UseSought { feature }, rungs).is_some()

@@ -8,7 +8,8 @@ use Rattle.ladder_tree.specs.declared.project.Project.{Project}
 use Rattle.ladder_rules.specs.Settings.{settings_of}
 use Rattle.ladder_meaning.specs.Cycle.{Ended, start, history}
 use Rattle.ladder_meaning.specs.State.{seen}
-use Rattle.ladder_meaning.specs.View.{has_set_pwm, view}
+use Rattle.ladder_tree.specs.Peripherals.{any_pwm}
+use Rattle.ladder_meaning.specs.View.{view}
 use Rattle.ladder_meaning.specs.declared.reading.Reading.{Reading}
 use Rattle.ladder_meaning.specs.declared.reading.View.{View}
 use Rattle.ladder_trace.specs.Duty.{duty_as, shown_where}
@@ -33,7 +34,7 @@ lines_from n passed (v ∷ vs) = shown_text n (passed + 1) v ++ lines_from n (pa
 
 -- the duty is shown where there is a SET_PWM: on a chip as far as its register tells it
 abbrev pub duty_shown : Project → DutyShown
-duty_shown p = shown_where (has_set_pwm (all_leaves p.rungs)) (option_and_then (λ s. s.pwm) (settings_of p))
+duty_shown p = shown_where (any_pwm (all_leaves p.rungs)) (option_and_then (λ s. s.pwm) (settings_of p))
 
 -- what a ladder shows at a cycle's end, with the duty as it is told to
 abbrev pub view_with : DutyShown → Names → Ended → View

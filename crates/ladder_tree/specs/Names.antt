@@ -6,10 +6,11 @@ use Rattle.std.specs.Str.{bytes_eq}
 use Rattle.texts.specs.Digits.{is_digit}
 use Rattle.ladder_tree.specs.declared.element.Leaf as leaf
 use Rattle.ladder_tree.specs.declared.element.LeafKind.{LeafKind}
-use Rattle.ladder_tree.specs.declared.element.LeafKind.TheVariants.{Contacts, Coil, Osr, Osf, Timer, Counter, Reset, Move, Math, Compare, Shift, Table, ReadAdc, SetPwm, Recv, Send, Persist, Linear, Formatted}
+use Rattle.ladder_tree.specs.declared.element.LeafKind.TheVariants.{Contacts, Coil, Osr, Osf, Short, Open, MasterRelay, Placeholder, Comment, Timer, Counter, Reset, Move, Math, Compare, Shift, Table, ReadAdc, SetPwm, Recv, Send, Persist, Linear, Formatted}
 use Rattle.ladder_tree.specs.declared.element.Operand.{Operand}
 use Rattle.ladder_tree.specs.declared.element.Operand.TheVariants.{Var, Num}
 use Rattle.ladder_tree.specs.declared.project.Rung.{Rung}
+use Rattle.ladder_tree.specs.declared.limits.TheConstants.{NAME_BYTES}
 use Rattle.ladder_tree.specs.declared.names.Names.{Names}
 use Rattle.ladder_tree.specs.Leaves.{all_leaves}
 
@@ -40,13 +41,7 @@ is_name_within most (b ∷ bs) = not (is_digit b) && (list_all is_name_byte (b �
 
 -- a name of a project
 abbrev pub is_name : List ℕ → Bool
-is_name name = is_name_within 64 name
-
--- the bit that an element names
-abbrev pub bit_names : LeafKind → List (List ℕ)
-bit_names (Contacts name neg) = name ∷ []
-bit_names (Coil name mode) = name ∷ []
-bit_names _ = []
+is_name name = is_name_within NAME_BYTES name
 
 abbrev pub operand_names : Operand → List (List ℕ)
 operand_names (Var name) = name ∷ []
@@ -57,34 +52,79 @@ abbrev pub numbered_names : List ℕ → ℕ → List (List ℕ)
 numbered_names name zero = []
 numbered_names name (suc k) = numbered_names name k ++ (name ++ decimal k) ∷ []
 
--- the variables that an element names, from left to right
+-- What an element names, and how many memory bits it has.
+pub record Named : Type 0 where
+  -- its bit
+  pub bits : List (List ℕ)
+  -- whether that begins with a letter of its kind
+  pub is_right : Bool
+  -- its variables, from left to right
+  pub variables : List (List ℕ)
+  -- the one that an analog input is read into
+  pub analog : List (List ℕ)
+  -- the one that the EEPROM keeps
+  pub persistent : List (List ℕ)
+  pub memories : ℕ
+
+abbrev pub nothing : Named
+nothing = record { bits = []; is_right = true; variables = []; analog = []; persistent = []; memories = 0 }
+
+abbrev pub bit : List ℕ → Bool → Named
+bit name right = record nothing { bits = name ∷ []; is_right = right }
+
+abbrev pub memory : Named
+memory = record nothing { memories = 1 }
+
+abbrev pub variables : List (List ℕ) → Named
+variables names = record nothing { variables = names }
+
+abbrev pub variable : List ℕ → Named
+variable name = variables (name ∷ [])
+
+-- A contact's name begins with X, Y or R, and a coil's with Y or R. A counter and a shift register remember their input in a memory bit, as one-shots do.
+abbrev pub named : LeafKind → Named
+named (Contacts name neg) = bit name (is_input name || (is_output name || is_relay name))
+named (Coil name mode) = bit name (is_output name || is_relay name)
+named Osr = memory
+named Osf = memory
+named Short = nothing
+named Open = nothing
+named MasterRelay = nothing
+named Placeholder = nothing
+named (Comment text) = nothing
+named (Timer how name delay) = variable name
+named (Counter how name max) = record (variable name) { memories = 1 }
+named (Reset name) = variable name
+named (Move dest src) = variables (dest ∷ operand_names src)
+named (Math how dest a b) = variables (dest ∷ (operand_names a ++ operand_names b))
+named (Compare how a b) = variables (operand_names a ++ operand_names b)
+named (Shift name places) = record (variables (numbered_names name places)) { memories = 1 }
+named (Table dest index as_text values) = variables (dest ∷ operand_names index)
+named (ReadAdc name) = record (variable name) { analog = name ∷ [] }
+named (SetPwm name hz) = variable name
+named (Recv name) = variable name
+named (Send name) = variable name
+named (Persist name) = record (variable name) { persistent = name ∷ [] }
+named (Linear dest index points) = variables (dest ∷ operand_names index)
+named (Formatted name text) = variable name
+
+abbrev pub bit_names : LeafKind → List (List ℕ)
+bit_names k = (named k).bits
+
 abbrev pub variable_names : LeafKind → List (List ℕ)
-variable_names (Timer how name delay) = name ∷ []
-variable_names (Counter how name max) = name ∷ []
-variable_names (Reset name) = name ∷ []
-variable_names (Move dest src) = dest ∷ operand_names src
-variable_names (Math how dest a b) = dest ∷ (operand_names a ++ operand_names b)
-variable_names (Compare how a b) = operand_names a ++ operand_names b
-variable_names (Shift name places) = numbered_names name places
-variable_names (Table dest index as_text values) = dest ∷ operand_names index
-variable_names (ReadAdc name) = name ∷ []
-variable_names (SetPwm name hz) = name ∷ []
-variable_names (Recv name) = name ∷ []
-variable_names (Send name) = name ∷ []
-variable_names (Persist name) = name ∷ []
-variable_names (Linear dest index points) = dest ∷ operand_names index
-variable_names (Formatted name text) = name ∷ []
-variable_names _ = []
+variable_names k = (named k).variables
 
--- the variable that an element reads an analog input into
 abbrev pub analog_names : LeafKind → List (List ℕ)
-analog_names (ReadAdc name) = name ∷ []
-analog_names _ = []
+analog_names k = (named k).analog
 
--- the variable that an element keeps in the EEPROM
 abbrev pub persistent_names : LeafKind → List (List ℕ)
-persistent_names (Persist name) = name ∷ []
-persistent_names _ = []
+persistent_names k = (named k).persistent
+
+abbrev pub memories : LeafKind → ℕ
+memories k = (named k).memories
+
+abbrev pub has_kind : LeafKind → Bool
+has_kind k = (named k).is_right
 
 -- all that elements name, in file order
 abbrev pub all_named : (LeafKind → List (List ℕ)) → List leaf.Leaf → List (List ℕ)
@@ -107,14 +147,6 @@ firsts_from seen (n ∷ ns) = if list_any (bytes_eq n) seen then firsts_from see
 abbrev pub firsts : List (List ℕ) → List (List ℕ)
 firsts names = firsts_from [] names
 
--- how many memory bits an element has
-abbrev pub memories : LeafKind → ℕ
-memories Osr = 1
-memories Osf = 1
-memories (Counter how name max) = 1
-memories (Shift name places) = 1
-memories _ = 0
-
 abbrev pub memories_in : List leaf.Leaf → ℕ
 memories_in [] = 0
 memories_in (l ∷ ls) = memories l.kind + memories_in ls
@@ -129,12 +161,6 @@ names_of gs = record {
   persistent = firsts (all_named persistent_names (all_leaves gs));
   memories = memories_in (all_leaves gs);
 }
-
--- A contact's name begins with X, Y or R, and a coil's with Y or R.
-abbrev pub has_kind : LeafKind → Bool
-has_kind (Contacts name neg) = is_input name || (is_output name || is_relay name)
-has_kind (Coil name mode) = is_output name || is_relay name
-has_kind _ = true
 
 -- Each bit that elements name is a name, and of its element's kind.
 abbrev pub is_well_named : LeafKind → Bool

@@ -6,5 +6,6 @@ pub mod fault;
 pub mod leaves;
 pub mod limits;
 pub mod names;
+pub mod peripheral;
 pub mod project;
 pub mod visit;

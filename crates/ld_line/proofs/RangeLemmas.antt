@@ -18,9 +18,10 @@ use Rattle.ladder_tree.specs.declared.element.CompareHow.{CompareHow}
 use Rattle.ladder_tree.specs.declared.element.CompareHow.TheVariants as test
 use Rattle.ladder_tree.specs.declared.element.Operand.{Operand}
 use Rattle.ladder_tree.specs.declared.element.Operand.TheVariants.{Var, Num}
+use Rattle.ladder_tree.specs.declared.limits.TheConstants.{SHIFT_PLACES, TABLE_VALUES}
 use Rattle.ld_line.proofs.SaidLemmas.{anything, if_map, if_then, if_weak, if_both, if_made, if_test, said_so}
 use Rattle.ld_line.specs.Said.{IfIs, said_map, both, bare}
-use Rattle.ld_line.specs.Numbers.{number, in_range, natural_in, integer, most_delay, most_setting, most_items}
+use Rattle.ld_line.specs.Numbers.{number, in_range, natural_in, integer, most_delay, most_setting}
 use Rattle.ld_line.specs.Operands.{name, flag, is_character, operand}
 use Rattle.ld_line.specs.Elements.{only_name, named, contacts, mode_from, coil, timer_of, counter_of, move, operand_pair, math, compare, shift, table_head, counted, integers, table, pwm, element_of}
 use Rattle.std.specs.Prelude.{codes}
@@ -195,8 +196,8 @@ shift_said : (ts : List (List ℕ)) → IfIs (shift ts) IsRead
 shift_said [] = tt
 shift_said (n ∷ []) = tt
 shift_said (n ∷ p ∷ []) =
-    if_made (λ p. kind.Shift p.0 p.1) IsNamed (λ x. (1 ≤ x) × (x ≤ most_items)) IsRead (name n) (natural_in 1 most_items p) (name_said n) (natural_said 1 most_items p)
-    (λ p h. and_from (is_name p.0) (nat_le 1 p.1 && nat_le p.1 most_items) h.0 (and_from (nat_le 1 p.1) (nat_le p.1 most_items) (at_most 1 p.1 h.1.0) (at_most p.1 most_items h.1.1)))
+    if_made (λ p. kind.Shift p.0 p.1) IsNamed (λ x. (1 ≤ x) × (x ≤ SHIFT_PLACES)) IsRead (name n) (natural_in 1 SHIFT_PLACES p) (name_said n) (natural_said 1 SHIFT_PLACES p)
+    (λ p h. and_from (is_name p.0) (nat_le 1 p.1 && nat_le p.1 SHIFT_PLACES) h.0 (and_from (nat_le 1 p.1) (nat_le p.1 SHIFT_PLACES) (at_most 1 p.1 h.1.0) (at_most p.1 SHIFT_PLACES h.1.1)))
 shift_said (n ∷ p ∷ t ∷ ts) = tt
 
 pwm_said : (ts : List (List ℕ)) → IfIs (pwm ts) IsRead
@@ -207,23 +208,23 @@ pwm_said (n ∷ z ∷ []) =
     (λ p h. and_from (is_name p.0) (nat_le p.1 most_setting) h.0 (at_most p.1 most_setting h.1.1))
 pwm_said (n ∷ z ∷ t ∷ ts) = tt
 
-counted_said : (dest : List ℕ) (index : Operand) (count : ℕ) (as_text : Bool) (values : List ℤ) → IsNamed dest → IsReadOperand index → count ≤ most_items
+counted_said : (dest : List ℕ) (index : Operand) (count : ℕ) (as_text : Bool) (values : List ℤ) → IsNamed dest → IsReadOperand index → count ≤ TABLE_VALUES
     → AreIntegers values → IfIs (counted dest index count as_text values) IsRead
 counted_said dest index count as_text values n o h v = by (length values == count) refl
   where
     by : (b : Bool) → (length values == count) ≡ b → IfIs (if b then Is (kind.Table dest index as_text values) else Bad) IsRead
     by true e =
         let same : length values ≡ count = grind (arith, nat_tests) in
-        let few : length values ≤ most_items = omega arith in
-        and_from (is_name dest) ((is_read_operand index && list_all is_integer values) && nat_le (length values) most_items) n
-        (and_from (is_read_operand index && list_all is_integer values) (nat_le (length values) most_items) (and_from (is_read_operand index) (list_all is_integer values) o v) (at_most (length values) most_items few))
+        let few : length values ≤ TABLE_VALUES = omega arith in
+        and_from (is_name dest) ((is_read_operand index && list_all is_integer values) && nat_le (length values) TABLE_VALUES) n
+        (and_from (is_read_operand index && list_all is_integer values) (nat_le (length values) TABLE_VALUES) (and_from (is_read_operand index) (list_all is_integer values) o v) (at_most (length values) TABLE_VALUES few))
     by false e = tt
 
 abbrev HeadFits : List ℕ × Operand → Type 0
 HeadFits p = IsNamed p.0 × IsReadOperand p.1
 
 abbrev HowFits : ℕ × Bool → Type 0
-HowFits p = ((0 ≤ p.0) × (p.0 ≤ most_items)) × Unit {0}
+HowFits p = ((0 ≤ p.0) × (p.0 ≤ TABLE_VALUES)) × Unit {0}
 
 abbrev TailFits : (ℕ × Bool) × List ℤ → Type 0
 TailFits p = HowFits p.0 × AreIntegers p.1
@@ -235,15 +236,15 @@ table_said (d ∷ i ∷ []) = tt
 table_said (d ∷ i ∷ c ∷ []) = tt
 table_said (d ∷ i ∷ c ∷ f ∷ vs) =
     let head : IfIs (table_head d i) HeadFits = if_both IsNamed IsReadOperand (name d) (operand i) (name_said d) (operand_said i) in
-    let how : IfIs (both (natural_in 0 most_items c) (flag f)) HowFits =
-    if_both (λ n. (0 ≤ n) × (n ≤ most_items)) (λ x. Unit {0}) (natural_in 0 most_items c) (flag f) (natural_said 0 most_items c) (anything (flag f)) in
-    let tail : IfIs (both (both (natural_in 0 most_items c) (flag f)) (integers vs)) TailFits =
-    if_both HowFits AreIntegers (both (natural_in 0 most_items c) (flag f)) (integers vs) how (integers_said vs) in
-    let whole = both (table_head d i) (both (both (natural_in 0 most_items c) (flag f)) (integers vs)) in
+    let how : IfIs (both (natural_in 0 TABLE_VALUES c) (flag f)) HowFits =
+    if_both (λ n. (0 ≤ n) × (n ≤ TABLE_VALUES)) (λ x. Unit {0}) (natural_in 0 TABLE_VALUES c) (flag f) (natural_said 0 TABLE_VALUES c) (anything (flag f)) in
+    let tail : IfIs (both (both (natural_in 0 TABLE_VALUES c) (flag f)) (integers vs)) TailFits =
+    if_both HowFits AreIntegers (both (natural_in 0 TABLE_VALUES c) (flag f)) (integers vs) how (integers_said vs) in
+    let whole = both (table_head d i) (both (both (natural_in 0 TABLE_VALUES c) (flag f)) (integers vs)) in
     if_then (λ p. counted p.0.0 p.0.1 p.1.0.0 p.1.0.1 p.1.1) IsRead whole
     (if_weak (λ p. HeadFits p.0 × TailFits p.1) (λ p. IfIs (counted p.0.0 p.0.1 p.1.0.0 p.1.0.1 p.1.1) IsRead) whole
     (λ p h. counted_said p.0.0 p.0.1 p.1.0.0 p.1.0.1 p.1.1 h.0.0 h.0.1 h.1.0.0.1 h.1.1)
-    (if_both HeadFits TailFits (table_head d i) (both (both (natural_in 0 most_items c) (flag f)) (integers vs)) head tail))
+    (if_both HeadFits TailFits (table_head d i) (both (both (natural_in 0 TABLE_VALUES c) (flag f)) (integers vs)) head tail))
 
 named_said : (make : List ℕ → LeafKind) (ts : List (List ℕ)) → ((n : List ℕ) → IsNamed n → IsRead (make n)) → IfIs (named make ts) IsRead
 named_said make ts h = if_map make IsRead (only_name ts) (if_weak IsNamed (λ n. IsRead (make n)) (only_name ts) h (only_name_said ts))

@@ -13,9 +13,10 @@ use Rattle.ladder_tree.specs.declared.element.CompareHow.TheVariants as test
 use Rattle.ladder_tree.specs.declared.element.LeafKind.{LeafKind}
 use Rattle.ladder_tree.specs.declared.element.LeafKind.TheVariants as kind
 use Rattle.ladder_tree.specs.declared.element.Operand.{Operand}
+use Rattle.ladder_tree.specs.declared.limits.TheConstants.{SHIFT_PLACES, TABLE_VALUES}
 use Rattle.ld_line.specs.Said.{said_map, said_then, both, all_said, bare}
 use Rattle.ld_line.specs.Tokens.{comment_text}
-use Rattle.ld_line.specs.Numbers.{natural_in, integer, most_delay, most_setting, most_items}
+use Rattle.ld_line.specs.Numbers.{natural_in, integer, most_delay, most_setting}
 use Rattle.ld_line.specs.Operands.{name, flag, operand}
 use Rattle.ld_line.specs.declared.said.Said.{Said}
 use Rattle.ld_line.specs.declared.said.Said.TheVariants.{Bad, Is}
@@ -84,7 +85,7 @@ compare how _ = Bad
 
 -- SHIFT_REGISTER name places
 abbrev pub shift : List (List ℕ) → Said LeafKind
-shift (n ∷ places ∷ []) = said_map (λ p. kind.Shift p.0 p.1) (both (name n) (natural_in 1 most_items places))
+shift (n ∷ places ∷ []) = said_map (λ p. kind.Shift p.0 p.1) (both (name n) (natural_in 1 SHIFT_PLACES places))
 shift _ = Bad
 
 -- as many values as the count, which is looked at where each number is in its range
@@ -102,7 +103,7 @@ integers ts = all_said (map integer ts)
 
 -- LOOK_UP_TABLE dest index count flag values
 abbrev pub table : List (List ℕ) → Said LeafKind
-table (dest ∷ index ∷ count ∷ as_text ∷ values) = table_by (table_head dest index) (both (natural_in 0 most_items count) (flag as_text)) (integers values)
+table (dest ∷ index ∷ count ∷ as_text ∷ values) = table_by (table_head dest index) (both (natural_in 0 TABLE_VALUES count) (flag as_text)) (integers values)
 table _ = Bad
 
 -- SET_PWM name hertz

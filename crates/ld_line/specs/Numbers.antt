@@ -3,7 +3,7 @@ use Rattle.std.specs.Prelude.{ℕ, Bool, true, false, ◌&&◌, ◌==◌, ℤ, p
 use Rattle.std.specs.Option.{option_map}
 use Rattle.texts.specs.Digits.{digits}
 use Rattle.ld_line.specs.Said.{said_map}
-use Rattle.ld_line.specs.declared.number.TheConstants.{MOST_SETTING, MOST_DELAY, MOST_PIN, MOST_ITEMS}
+use Rattle.ld_line.specs.declared.number.TheConstants.{MOST_SETTING, MOST_DELAY, MOST_PIN}
 use Rattle.ld_line.specs.declared.said.Said.{Said}
 use Rattle.ld_line.specs.declared.said.Said.TheVariants.{Bad, Range, Is}
 
@@ -40,7 +40,3 @@ most_delay = MOST_DELAY
 
 abbrev pub most_pin : ℕ
 most_pin = MOST_PIN
-
--- the values of a table, and the places of a shift register
-abbrev pub most_items : ℕ
-most_items = MOST_ITEMS

@@ -6,7 +6,8 @@ use Rattle.ladder_tree.specs.declared.element.LeafKind.{LeafKind}
 use Rattle.ladder_tree.specs.declared.element.LeafKind.TheVariants.{Contacts, Coil, Osr, Osf, Short, Open, MasterRelay, Placeholder, Comment, Timer, Counter, Reset, Move, Math, Compare, Shift, Table, ReadAdc, SetPwm, Recv, Send, Persist, Linear, Formatted}
 use Rattle.ladder_tree.specs.declared.element.Operand.{Operand}
 use Rattle.ladder_tree.specs.declared.element.Operand.TheVariants.{Var, Num}
-use Rattle.ld_line.specs.Numbers.{most_delay, most_setting, most_items, most_pin}
+use Rattle.ladder_tree.specs.declared.limits.TheConstants.{SHIFT_PLACES, TABLE_VALUES}
+use Rattle.ld_line.specs.Numbers.{most_delay, most_setting, most_pin}
 use Rattle.ld_line.specs.declared.pins.PinsLine.{PinsLine}
 use Rattle.ld_line.specs.declared.pins.PinsLine.TheVariants as pins
 use Rattle.ld_line.specs.declared.header.HeaderLine.{HeaderLine}
@@ -37,8 +38,8 @@ is_read_kind (Reset name) = is_name name
 is_read_kind (Move dest src) = is_name dest && is_read_operand src
 is_read_kind (Math how dest a b) = is_name dest && (is_read_operand a && is_read_operand b)
 is_read_kind (Compare how a b) = is_read_operand a && is_read_operand b
-is_read_kind (Shift name places) = is_name name && (nat_le 1 places && nat_le places most_items)
-is_read_kind (Table dest index as_text values) = is_name dest && ((is_read_operand index && list_all is_integer values) && nat_le (length values) most_items)
+is_read_kind (Shift name places) = is_name name && (nat_le 1 places && nat_le places SHIFT_PLACES)
+is_read_kind (Table dest index as_text values) = is_name dest && ((is_read_operand index && list_all is_integer values) && nat_le (length values) TABLE_VALUES)
 is_read_kind (ReadAdc name) = is_name name
 is_read_kind (SetPwm name hz) = is_name name && nat_le hz most_setting
 is_read_kind (Recv name) = is_name name

@@ -3,7 +3,7 @@
 ghost use Rattle.std.specs.Prelude.{◌≡◌, IfOk, map};
 ghost use Rattle.ld_line.specs.Elements.{integers, table_by, only_name, contacts, mode_of, mode_from, coil, comment, operand_pair, table_head, timer_of, counter_of, move, math, compare, shift, counted, table, pwm, element_of};
 
-use crate::number::{MOST_DELAY, MOST_ITEMS, MOST_SETTING, integer, natural_in};
+use crate::number::{MOST_DELAY, MOST_SETTING, integer, natural_in};
 use crate::operand::{copy_of, flag, name, operand};
 use crate::said::{Said, bare, both, made};
 use crate::tokens::comment_text;
@@ -11,6 +11,7 @@ use crate::word::Word;
 use ladder_tree::element::{
     CoilMode, CompareHow, CounterHow, LeafKind, MathHow, Name, Nums, Operand, TimerHow,
 };
+use ladder_tree::limits::{SHIFT_PLACES, TABLE_VALUES};
 use std::alloc::{AllocError, Global};
 
 /// `CONTACTS name flag`.
@@ -134,7 +135,7 @@ fn shift(alloc: Global, operands: &[&[u8]]) -> Result<Said<LeafKind>, AllocError
     let [token, places] = operands else {
         return Ok(Said::Bad);
     };
-    match both(name(alloc, token)?, natural_in(1, MOST_ITEMS, places)) {
+    match both(name(alloc, token)?, natural_in(1, SHIFT_PLACES, places)) {
         Said::Bad => Ok(Said::Bad),
         Said::Range => Ok(Said::Range),
         Said::Is((name, places)) => {
@@ -223,7 +224,7 @@ fn table(alloc: Global, operands: &[&[u8]]) -> Result<Said<LeafKind>, AllocError
         return Ok(Said::Bad);
     };
     let head = table_head(alloc, dest, index)?;
-    let how = both(natural_in(0, MOST_ITEMS, count), flag(as_text));
+    let how = both(natural_in(0, TABLE_VALUES, count), flag(as_text));
     let values = integers(alloc, values)?;
     Ok(table_by(head, how, values))
 }

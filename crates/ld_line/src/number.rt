@@ -18,9 +18,6 @@ pub const MOST_DELAY: u32 = 2_147_483_647;
 /// The greatest number of a pin.
 pub const MOST_PIN: u32 = 255;
 
-/// How many values a table has at most, and how many places a shift register.
-pub const MOST_ITEMS: u32 = 60;
-
 /// A number's sign and its size, which stays at `u32::MAX` where it is greater.
 #[derive(Clone, Copy)]
 struct Number {

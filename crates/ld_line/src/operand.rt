@@ -9,11 +9,9 @@ ghost use Rattle.ld_line.specs.Operands.{name, flag, is_character, operand};
 use crate::number::integer;
 use crate::said::{Said, made};
 use ladder_tree::element::{Name, Operand};
+use ladder_tree::limits::NAME_BYTES;
 use ld_base::list::List;
 use std::alloc::{AllocError, Global};
-
-/// The greatest length of a name.
-const LONGEST_NAME: usize = 64;
 
 /// Whether a byte is a letter, a digit or `_`.
 fn is_name_byte(byte: u8) -> bool
@@ -43,7 +41,7 @@ fn begins_with_digit(token: &[u8]) -> bool
 pub fn is_name(token: &[u8]) -> bool
     ensures { result ≡ is_name token.now }
 {
-    if token.is_empty() || token.len() > LONGEST_NAME {
+    if token.is_empty() || token.len() > NAME_BYTES {
         return false;
     }
     !begins_with_digit(token) && has_name_bytes(token)

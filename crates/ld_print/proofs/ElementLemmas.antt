@@ -28,6 +28,7 @@ use Rattle.ld_print.specs.Words.{word_for}
 use Rattle.ld_print.proofs.TokenLemmas.{IsToken, short_tokens, short_behind, ends, ends_some, before_same, behind_indent, runs_indent, runs_word, tokens_printed}
 use Rattle.ld_print.proofs.LineLemmas.{not_feed, Fits, clean_both, clean_token, clean_behind}
 use Rattle.ld_print.proofs.KindLemmas.{is_comment, kind_begins, kind_short, kind_read}
+use Rattle.texts.specs.declared.limits.TheConstants.{LINE_BYTES}
 
 -- a comment's text that stands on a line behind the word
 pub record FitsLine (text : List ℕ) : Type 0 where
@@ -38,7 +39,7 @@ pub record FitsLine (text : List ℕ) : Type 0 where
 -- The text of a comment, and the values of a table, can be too much for a line.
 abbrev pub TextFits : LeafKind → Type 0
 TextFits (kind.Comment text) = FitsLine text
-TextFits (kind.Table dest index as_text values) = length (words.element_words (kind.Table dest index as_text values)) ≤ 512
+TextFits (kind.Table dest index as_text values) = length (words.element_words (kind.Table dest index as_text values)) ≤ LINE_BYTES
 TextFits _ = Unit {0}
 
 -- an element that is read again where it is printed
@@ -117,7 +118,7 @@ comment_fits (c ∷ cs) f = record {
 }
 
 -- four tokens behind a word
-few_tokens : (k : LeafKind) → length (words.tokens_behind k) ≤ 4 → is_read_kind k ≡ true → is_comment k ≡ false → length (words.element_words k) ≤ 512
+few_tokens : (k : LeafKind) → length (words.tokens_behind k) ≤ 4 → is_read_kind k ≡ true → is_comment k ≡ false → length (words.element_words k) ≤ LINE_BYTES
 few_tokens k few h c =
     omega (arith, length-append (spelling (word_for k)) (words.behind_spaces (words.tokens_behind k)), (kind_begins k h).short, short_behind (words.tokens_behind k) (kind_short k h c), few)
 
@@ -127,7 +128,7 @@ four_flags name mode.Negated = omega arith
 four_flags name mode.Set = omega arith
 four_flags name mode.Reset = omega arith
 
-short_enough : (k : LeafKind) → IsPrintable k → is_comment k ≡ false → length (words.element_words k) ≤ 512
+short_enough : (k : LeafKind) → IsPrintable k → is_comment k ≡ false → length (words.element_words k) ≤ LINE_BYTES
 short_enough (kind.Coil name m) p c = few_tokens (kind.Coil name m) (four_flags name m) p.read refl
 short_enough (kind.Table dest index as_text values) p c = p.text
 short_enough (kind.Comment text) p c = absurd cc

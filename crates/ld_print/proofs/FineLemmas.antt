@@ -21,12 +21,14 @@ use Rattle.ladder_tree.specs.declared.element.LeafKind.TheVariants as kind
 use Rattle.ladder_tree.specs.declared.fault.ProjectFault.{ProjectFault}
 use Rattle.ladder_tree.specs.declared.project.PinLine as pin
 use Rattle.ladder_tree.specs.Names.{is_name}
+use Rattle.ladder_tree.specs.declared.limits.TheConstants.{SHIFT_PLACES}
 use Rattle.texts.specs.Lines.{IsLine}
+use Rattle.texts.specs.declared.limits.TheConstants.{LINE_BYTES}
 use Rattle.ld_line.proofs.RangeLemmas.{in_their_ranges, pins_in_range, settings_in_range}
 use Rattle.ld_line.proofs.SaidLemmas.{said_so}
 use Rattle.ld_line.specs.Elements.{only_name, named, contacts, mode_from, coil, timer_of, counter_of, move, operand_pair, math, compare, shift, pwm, element_of}
 use Rattle.ld_line.specs.Header.{header_of}
-use Rattle.ld_line.specs.Numbers.{most_delay, most_setting, most_items, most_pin, natural_in, integer}
+use Rattle.ld_line.specs.Numbers.{most_delay, most_setting, most_pin, natural_in, integer}
 use Rattle.ld_line.specs.Operands as read
 use Rattle.ld_line.specs.Pins.{pin_line, pin_of_line}
 use Rattle.ld_line.specs.Range.{is_read_setting}
@@ -151,7 +153,7 @@ clean_drop zero xs h = h
 clean_drop (suc n) [] h = refl
 clean_drop (suc n) (x ∷ xs) h = clean_drop n xs (and_parts (not_feed x) (list_all not_feed xs) h).1
 
-comment_stays : (bytes : List ℕ) → length bytes ≤ 512 → IsLine bytes → FitsLine (comment_text bytes)
+comment_stays : (bytes : List ℕ) → length bytes ≤ LINE_BYTES → IsLine bytes → FitsLine (comment_text bytes)
 comment_stays bytes short clean =
     let turned = clean_front is_return (reverse bytes) (clean_reverse bytes (clean_line bytes clean)) in
     let whole = before is_return bytes in
@@ -224,7 +226,7 @@ compare_text how (a ∷ b ∷ t ∷ ts) = tt
 shift_text : (ts : List (List ℕ)) → IfIs (shift ts) TextFits
 shift_text [] = tt
 shift_text (n ∷ []) = tt
-shift_text (n ∷ k ∷ []) = made_text _ (both (read.name n) (natural_in 1 most_items k)) (λ a. tt)
+shift_text (n ∷ k ∷ []) = made_text _ (both (read.name n) (natural_in 1 SHIFT_PLACES k)) (λ a. tt)
 shift_text (n ∷ k ∷ t ∷ ts) = tt
 
 pwm_text : (ts : List (List ℕ)) → IfIs (pwm ts) TextFits
@@ -272,7 +274,7 @@ text_fits word.Persist ts bytes f r = named_text kind.Persist ts (λ n. tt)
 text_fits word.FormattedString ts bytes f r = tt
 text_fits word.PiecewiseLinear ts bytes f r = tt
 
-printable : (number : ℕ) (bytes : List ℕ) (l : leaf.Leaf) → length bytes ≤ 512 → IsLine bytes → said_in site.Inside number bytes ≡ Is (Body (mark.Element l))
+printable : (number : ℕ) (bytes : List ℕ) (l : leaf.Leaf) → length bytes ≤ LINE_BYTES → IsLine bytes → said_in site.Inside number bytes ≡ Is (Body (mark.Element l))
     → IsPrintable l.kind
 printable number bytes l short clean h =
     let w = element_worded number bytes l h in
@@ -376,14 +378,14 @@ not_over n k h = grind (arith, nat_tests)
 
 -- what is known of a line at a place that is not the first
 record Seen (p : Place) (bytes : List ℕ) (f : LineForm) : Type 0 where
-  short : length bytes ≤ 512
+  short : length bytes ≤ LINE_BYTES
   free : begins_unbuilt p.target (tokens bytes) ≡ false
   built : names_unbuilt (Is f) ≡ false
 
 seen : (p : Place) (bytes : List ℕ) (size : ℕ) (f : LineForm) → is_first p.site ≡ false → Passes p bytes size (Is f) → Seen p bytes f
 seen p bytes size f e all =
     let k = or_parts (begins_unbuilt p.target (tokens bytes)) (names_unbuilt (Is f)) (ap (λ b. not b && (begins_unbuilt p.target (tokens bytes) || names_unbuilt (Is f))) (sym e) ∙ all.built) in
-    record { short = not_over 512 (length bytes) all.short; free = k.0; built = k.1 }
+    record { short = not_over LINE_BYTES (length bytes) all.short; free = k.0; built = k.1 }
 
 setting_fits : (p : Place) (number : ℕ) (bytes : List ℕ) (size : ℕ) (h : HeaderLine) → p.site ≡ site.Header → said_in p.site number bytes ≡ Is (Header h)
     → Passes p bytes size (Is (Header h)) → FormFits (Header h)

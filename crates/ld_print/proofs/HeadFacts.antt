@@ -3,6 +3,7 @@ use Rattle.std.proofs.Common.{◌≡◌, ℕ, ◌+◌, ◌<◌, ◌≤◌, leb, 
 use Rattle.std.proofs.lemmas.Bool.Decides.{nat_tests}
 use Rattle.chip_tables.specs.declared.target.Target.{Target}
 use Rattle.ladder_tree.specs.declared.project.PinLine as pin
+use Rattle.ladder_tree.specs.declared.limits.TheConstants.{PIN_LINES}
 use Rattle.ld_line.specs.Numbers.{most_setting}
 use Rattle.ld_line.specs.Words.{is_target_built}
 use Rattle.ld_line.specs.declared.pins.PinsLine.TheVariants as pins
@@ -36,7 +37,7 @@ pub record SettingsFit (s : Settings) : Type 0 where
   pub crystal : s.crystal ≤ most_setting
   pub baud : s.baud ≤ most_setting
   pub pins : AllPinsFit s.pins
-  pub few : length s.pins ≤ 4000
+  pub few : length s.pins ≤ PIN_LINES
 
 -- the settings fit, and what stands behind them is known at the place behind them
 pub record Led (x : Site) (s : Settings) (forms : List LineForm) : Type 0 where
@@ -64,7 +65,7 @@ pins_led (l ∷ ls) s rest h =
       rest = subst (λ k. AllFine (place_in site.Pins s.target k) (pin_forms ls ++ rest)) count h.rest.1;
     }))
   where
-    below : (n : ℕ) → leb 4000 n ≡ false → n < 4000
+    below : (n : ℕ) → leb PIN_LINES n ≡ false → n < PIN_LINES
     below n h = grind (arith, nat_tests)
 
 item_led : (i : Item) (s : Settings) (rest : List LineForm) → Led site.Header s (spelled_item i ++ rest) → Led site.Header (with_item s i) rest

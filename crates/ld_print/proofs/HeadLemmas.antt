@@ -29,6 +29,7 @@ use Rattle.ld_print.proofs.TokenLemmas.{IsToken, tokens_printed, trimmed_token, 
 use Rattle.ld_print.proofs.NumberLemmas.{decimal_token, natural_read}
 use Rattle.ld_print.proofs.LineLemmas.{Fits, clean_token, clean_both}
 use Rattle.ld_print.proofs.OperandLemmas.{name_short, name_read}
+use Rattle.texts.specs.declared.limits.TheConstants.{LINE_BYTES}
 
 pub record HeaderSaid (line : List ℕ) (f : LineForm) : Type 0 where
   pub said : (number : ℕ) → said_in site.Header number line ≡ Is f
@@ -42,7 +43,7 @@ micro_said Mega16 = record { said = λ n. refl; free = λ o. refl; fits = record
 micro_said Interp = record { said = λ n. refl; free = λ o. refl; fits = record { short = omega arith; clean = refl } }
 micro_said AnsiC = record { said = λ n. refl; free = λ o. refl; fits = record { short = omega arith; clean = refl } }
 
-token_said : (line : List ℕ) (h : HeaderLine) → IsToken line → length line ≤ 512 → behind_word (codes "MICRO=") line ≡ None
+token_said : (line : List ℕ) (h : HeaderLine) → IsToken line → length line ≤ LINE_BYTES → behind_word (codes "MICRO=") line ≡ None
     → behind_word (codes "COMPILED=") line ≡ None → setting line ≡ Is h → word_of line ≡ None → HeaderSaid line (Header h)
 token_said line h t short a b e w =
     let whole = trimmed_token line t in
@@ -58,7 +59,7 @@ token_said line h t short a b e w =
       fits = record { short = short; clean = clean_token line t.plain };
     }
 
-key_short : (n : ℕ) (key : List ℕ) → length key ≤ 8 → n ≤ most_setting → length (key ++ decimal n) ≤ 512
+key_short : (n : ℕ) (key : List ℕ) → length key ≤ 8 → n ≤ most_setting → length (key ++ decimal n) ≤ LINE_BYTES
 key_short n key k h = omega (arith, length-append key (decimal n), length-decimal-le 9 n (omega arith) (omega arith) (omega arith))
 
 pub cycle_said : (n : ℕ) → n ≤ most_setting → HeaderSaid (codes "CYCLE=" ++ decimal n) (Header (header.Cycle n))

@@ -4,6 +4,7 @@ use Rattle.std.specs.Prelude.{replicate}
 use Rattle.std.proofs.lemmas.Bool.Decides.{nat_tests}
 use Rattle.ld_print.specs.Words.{element_words}
 use Rattle.texts.specs.Lines.{joined}
+use Rattle.texts.specs.declared.limits.TheConstants.{LINE_BYTES}
 use Rattle.ladder_tree.specs.declared.element.Leaf as leaf
 use Rattle.ladder_tree.specs.declared.project.Node.{Node, Leaf, Series, Parallel}
 use Rattle.ladder_tree.specs.declared.project.Node.TheOpen.{Node-F}
@@ -18,9 +19,9 @@ joined-append (l ∷ ls) b = ap (λ t. l ++ 10 ∷ t) (joined-append ls b) ∙ s
 
 -- a line that no indent suits is the same at all such indents
 at_indents : (i j : ℕ) (words : List ℕ) → min 513 i ≡ min 513 j → indented i words ≡ indented j words
-at_indents i j words h = by (nat_le (i + length words) 512) (nat_le (j + length words) 512) refl refl
+at_indents i j words h = by (nat_le (i + length words) LINE_BYTES) (nat_le (j + length words) LINE_BYTES) refl refl
   where
-    by : (a b : Bool) → nat_le (i + length words) 512 ≡ a → nat_le (j + length words) 512 ≡ b
+    by : (a b : Bool) → nat_le (i + length words) LINE_BYTES ≡ a → nat_le (j + length words) LINE_BYTES ≡ b
         → (if a then replicate i 32 ++ words else words) ≡ (if b then replicate j 32 ++ words else words)
     by true true e f = let same : i ≡ j = grind (arith, nat_tests) in ap (λ k. replicate k 32 ++ words) same
     by true false e f = absurd (grind (arith, nat_tests))

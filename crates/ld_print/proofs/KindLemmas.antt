@@ -18,8 +18,9 @@ use Rattle.ladder_tree.specs.declared.element.LeafKind.{LeafKind}
 use Rattle.ladder_tree.specs.declared.element.LeafKind.TheVariants as kind
 use Rattle.ladder_tree.specs.declared.element.Operand.{Operand}
 use Rattle.ladder_tree.specs.Names.{is_name}
+use Rattle.ladder_tree.specs.declared.limits.TheConstants.{SHIFT_PLACES, TABLE_VALUES}
 use Rattle.ld_line.specs.Elements as elements
-use Rattle.ld_line.specs.Numbers.{most_delay, most_setting, most_items}
+use Rattle.ld_line.specs.Numbers.{most_delay, most_setting}
 use Rattle.ld_line.specs.Range.{is_integer, is_read_operand, is_read_kind}
 use Rattle.ld_line.specs.Rungs.{alone}
 use Rattle.ld_line.specs.Said.{said_map, said_then}
@@ -131,15 +132,15 @@ record FitsTable (dest : List ℕ) (index : Operand) (values : List ℤ) : Type 
   is_named : is_name dest ≡ true
   is_read : is_read_operand index ≡ true
   are_integers : list_all is_integer values ≡ true
-  few : length values ≤ most_items
+  few : length values ≤ TABLE_VALUES
 
 fits_table : (dest : List ℕ) (index : Operand) (as_text : Bool) (values : List ℤ) → is_read_kind (kind.Table dest index as_text values) ≡ true
     → FitsTable dest index values
 fits_table dest index as_text values h =
-    let g = and_parts (is_name dest) ((is_read_operand index && list_all is_integer values) && nat_le (length values) most_items) h in
-    let f = and_parts (is_read_operand index && list_all is_integer values) (nat_le (length values) most_items) g.1 in
+    let g = and_parts (is_name dest) ((is_read_operand index && list_all is_integer values) && nat_le (length values) TABLE_VALUES) h in
+    let f = and_parts (is_read_operand index && list_all is_integer values) (nat_le (length values) TABLE_VALUES) g.1 in
     let e = and_parts (is_read_operand index) (list_all is_integer values) f.0 in
-    record { is_named = g.0; is_read = e.0; are_integers = e.1; few = at_most (length values) most_items f.1 }
+    record { is_named = g.0; is_read = e.0; are_integers = e.1; few = at_most (length values) TABLE_VALUES f.1 }
 
 pub kind_short : (k : LeafKind) → is_read_kind k ≡ true → is_comment k ≡ false → AllShort (words.tokens_behind k)
 kind_short (kind.Contacts name neg) h c = (name_short name h, (flag_short neg, tt))
@@ -163,9 +164,9 @@ kind_short (kind.Math how dest a b) h c =
     (name_short dest g.0, (operand_short a f.0, (operand_short b f.1, tt)))
 kind_short (kind.Compare how a b) h c = let g = and_parts (is_read_operand a) (is_read_operand b) h in (operand_short a g.0, (operand_short b g.1, tt))
 kind_short (kind.Shift name places) h c =
-    let g = and_parts (is_name name) (nat_le 1 places && nat_le places most_items) h in
-    let f = and_parts (nat_le 1 places) (nat_le places most_items) g.1 in
-    (name_short name g.0, (decimal_short places (number_short places most_items (omega arith) f.1), tt))
+    let g = and_parts (is_name name) (nat_le 1 places && nat_le places SHIFT_PLACES) h in
+    let f = and_parts (nat_le 1 places) (nat_le places SHIFT_PLACES) g.1 in
+    (name_short name g.0, (decimal_short places (number_short places SHIFT_PLACES (omega arith) f.1), tt))
 kind_short (kind.Table dest index as_text values) h c =
     let t = fits_table dest index as_text values h in
     (name_short dest t.is_named, (operand_short index t.is_read, (decimal_short (length values) (omega (arith, t.few)), (flag_short as_text, integers_short values t.are_integers))))
@@ -227,10 +228,10 @@ math_read how dest a b h =
 
 shift_read : (n : List ℕ) (places : ℕ) → is_read_kind (kind.Shift n places) ≡ true → elements.shift (n ∷ decimal places ∷ []) ≡ Is (kind.Shift n places)
 shift_read n places h =
-    let g = and_parts (is_name n) (nat_le 1 places && nat_le places most_items) h in
-    let f = and_parts (nat_le 1 places) (nat_le places most_items) g.1 in
-    let few = at_most places most_items f.1 in
-    made_said (λ p. kind.Shift p.0 p.1) (name_read n g.0) (natural_read 1 most_items places (at_most 1 places f.0) few (omega (arith, few)))
+    let g = and_parts (is_name n) (nat_le 1 places && nat_le places SHIFT_PLACES) h in
+    let f = and_parts (nat_le 1 places) (nat_le places SHIFT_PLACES) g.1 in
+    let few = at_most places SHIFT_PLACES f.1 in
+    made_said (λ p. kind.Shift p.0 p.1) (name_read n g.0) (natural_read 1 SHIFT_PLACES places (at_most 1 places f.0) few (omega (arith, few)))
 
 table_read : (dest : List ℕ) (index : Operand) (as_text : Bool) (values : List ℤ) → FitsTable dest index values
     → elements.table (dest ∷ words.operand_text index ∷ decimal (length values) ∷ words.flag as_text ∷ words.integers values) ≡ Is (kind.Table dest index as_text values)
@@ -238,7 +239,7 @@ table_read dest index as_text values t =
     let same : (length values == length values) ≡ true = grind (arith, nat_tests) in
     ap (said_then (λ p. elements.counted p.0.0 p.0.1 p.1.0.0 p.1.0.1 p.1.1))
     (both_said (both_said (name_read dest t.is_named) (operand_read index t.is_read))
-    (both_said (both_said (natural_read 0 most_items (length values) (omega arith) t.few (omega (arith, t.few))) (flag_read as_text)) (integers_read values t.are_integers)))
+    (both_said (both_said (natural_read 0 TABLE_VALUES (length values) (omega arith) t.few (omega (arith, t.few))) (flag_read as_text)) (integers_read values t.are_integers)))
     ∙ ap (λ b. if b then Is (kind.Table dest index as_text values) else Bad) same
 
 pwm_read : (n : List ℕ) (hz : ℕ) → is_read_kind (kind.SetPwm n hz) ≡ true → elements.pwm (n ∷ decimal hz ∷ []) ≡ Is (kind.SetPwm n hz)

@@ -1,6 +1,7 @@
 -- What is known of a project that a text stands for.
 use Rattle.std.proofs.Common.{◌≡◌, ℕ, ◌+◌, ◌≤◌, true, List, ◌∷◌, ◌++◌, length, map, Some, None, refl, sym, ap, subst, arith}
 use Rattle.ladder_tree.specs.declared.project.Project.{Project}
+use Rattle.ladder_tree.specs.declared.limits.TheConstants.{PIN_LINES}
 use Rattle.ld_line.specs.Numbers.{most_setting}
 use Rattle.ld_line.specs.Words.{is_target_built}
 use Rattle.ld_line.specs.declared.header.HeaderLine.TheVariants as header
@@ -22,7 +23,7 @@ pub record Known (p : Project) : Type 0 where
   pub crystal : p.crystal ≤ most_setting
   pub baud : p.baud ≤ most_setting
   pub pins : AllPinsFit p.pins
-  pub few : length p.pins ≤ 4000
+  pub few : length p.pins ≤ PIN_LINES
   pub body : AllFine (place_in site.Between (Some p.target) (length p.pins)) (map Body (spelled p.rungs))
 
 closes : (x : Site) (n : ℕ) → end_fault x n ≡ None → x ≡ site.Between
@@ -52,7 +53,7 @@ known text p r =
       crystal = subst (λ n. n ≤ most_setting) (sym (ap (λ x. x.crystal) same)) led.fit.crystal;
       baud = subst (λ n. n ≤ most_setting) (sym (ap (λ x. x.baud) same)) led.fit.baud;
       pins = subst AllPinsFit pins led.fit.pins;
-      few = subst (λ ps. length ps ≤ 4000) pins led.fit.few;
+      few = subst (λ ps. length ps ≤ PIN_LINES) pins led.fit.few;
       body =
           subst (λ t. AllFine (place_in site.Between t (length p.pins)) (map Body (spelled p.rungs))) r.project.target (subst (λ ps. AllFine (place_in site.Between s.target (length ps)) (map Body (spelled p.rungs))) pins led.rest.1);
     }

@@ -6,6 +6,7 @@ use Rattle.std.proofs.lemmas.Bool.Decides.{nat_tests}
 use Rattle.std.proofs.lemmas.List.Elements.{All-cons, All-nil, All-head, All-tail}
 use Rattle.std.proofs.lemmas.List.Folds.{list_all-append}
 use Rattle.texts.specs.Lines.{IsLine}
+use Rattle.texts.specs.declared.limits.TheConstants.{LINE_BYTES}
 use Rattle.ld_print.specs.Words.{behind_spaces}
 use Rattle.ld_print.proofs.TokenLemmas.{is_plain, AllTokens, plain_line}
 
@@ -13,7 +14,7 @@ abbrev pub not_feed : ℕ → Bool
 not_feed b = not (b == 10)
 
 pub record Fits (bytes : List ℕ) : Type 0 where
-  pub short : length bytes ≤ 512
+  pub short : length bytes ≤ LINE_BYTES
   pub clean : list_all not_feed bytes ≡ true
 
 pub is_line : (bs : List ℕ) → list_all not_feed bs ≡ true → IsLine bs

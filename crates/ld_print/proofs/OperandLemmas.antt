@@ -8,6 +8,7 @@ use Rattle.ladder_tree.specs.declared.element.CoilMode.TheVariants as mode
 use Rattle.ladder_tree.specs.declared.element.Operand.{Operand}
 use Rattle.ladder_tree.specs.declared.element.Operand.TheVariants.{Var, Num}
 use Rattle.ladder_tree.specs.Names.{is_name_byte, is_name}
+use Rattle.ladder_tree.specs.declared.limits.TheConstants.{NAME_BYTES}
 use Rattle.texts.specs.Digits.{is_digit}
 use Rattle.ld_line.specs.Elements as elements
 use Rattle.ld_line.specs.Operands as read
@@ -39,11 +40,11 @@ plain_names (b ∷ bs) h = let g = and_parts (is_name_byte b) (list_all is_name_
 pub name_short : (n : List ℕ) → is_name n ≡ true → IsShort n
 name_short [] h = absurd cc
 name_short (b ∷ bs) h =
-    let g = and_parts (not (is_digit b)) (list_all is_name_byte (b ∷ bs) && nat_le (length (b ∷ bs)) 64) h in
-    let f = and_parts (list_all is_name_byte (b ∷ bs)) (nat_le (length (b ∷ bs)) 64) g.1 in
+    let g = and_parts (not (is_digit b)) (list_all is_name_byte (b ∷ bs) && nat_le (length (b ∷ bs)) NAME_BYTES) h in
+    let f = and_parts (list_all is_name_byte (b ∷ bs)) (nat_le (length (b ∷ bs)) NAME_BYTES) g.1 in
     record { token = record { some = omega arith; plain = plain_names (b ∷ bs) f.0 }; short = few (length (b ∷ bs)) f.1 }
   where
-    few : (n : ℕ) → nat_le n 64 ≡ true → n ≤ 64
+    few : (n : ℕ) → nat_le n NAME_BYTES ≡ true → n ≤ NAME_BYTES
     few n h = grind (arith, nat_tests)
 
 pub name_read : (n : List ℕ) → is_name n ≡ true → read.name n ≡ Is n

@@ -9,7 +9,9 @@ use Rattle.chip_tables.specs.declared.target.Target.TheVariants.{F628, F877, Meg
 use Rattle.ladder_tree.specs.declared.project.PinLine as pin
 use Rattle.ladder_tree.specs.declared.project.Project.{Project}
 use Rattle.ladder_tree.specs.declared.project.Rung.{Rung}
+use Rattle.ladder_tree.specs.declared.limits.TheConstants.{PIN_LINES}
 use Rattle.texts.specs.Lines.{IsLine}
+use Rattle.texts.specs.declared.limits.TheConstants.{LINE_BYTES}
 use Rattle.ld_line.specs.Header.{setting}
 use Rattle.ld_line.specs.Targets.{target_text}
 use Rattle.ld_line.specs.Tokens.{tokens}
@@ -87,10 +89,10 @@ built_interp F877 h = absurd cc
 built_interp Mega16 h = absurd cc
 built_interp AnsiC h = absurd cc
 
-over : (n : ℕ) → n < 4000 → nat_le 4000 n ≡ false
+over : (n : ℕ) → n < PIN_LINES → nat_le PIN_LINES n ≡ false
 over n h = grind (arith, nat_tests)
 
-pins_go : (t : Target) → is_target_built t ≡ true → (gs : List Rung) (all : ℕ) → all ≤ 4000
+pins_go : (t : Target) → is_target_built t ≡ true → (gs : List Rung) (all : ℕ) → all ≤ PIN_LINES
     → AllFine (place_in site.Between (Some t) all) (map Body (spelled gs)) → (ls : List pin.PinLine) (k b n : ℕ) → k + length ls ≡ all
     → b + 101 * length ls ≤ 450000 → AllPinsFit ls
     → (m : ℕ) × Goes (above site.Pins (Some t) k b) n (map_lines (print.pin_lines ls ++ tail_lines gs)) (pin_forms ls ++ tail_forms m gs)
@@ -176,7 +178,7 @@ spaces_clean zero = refl
 spaces_clean (suc n) = spaces_clean n
 
 indented_line : (i : ℕ) (words : List ℕ) → list_all not_feed words ≡ true → IsLine (print.indented i words)
-indented_line i words h = by (nat_le (i + length words) 512)
+indented_line i words h = by (nat_le (i + length words) LINE_BYTES)
   where
     by : (b : Bool) → IsLine (if b then replicate i 32 ++ words else words)
     by true = is_line (replicate i 32 ++ words) (clean_both (replicate i 32) words (spaces_clean i) h)

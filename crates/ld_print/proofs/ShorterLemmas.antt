@@ -15,12 +15,14 @@ use Rattle.texts.specs.Digits.{is_digit, value_behind, digits}
 use Rattle.ladder_tree.specs.declared.element.LeafKind.TheVariants as kind
 use Rattle.ladder_tree.specs.declared.element.Operand.{Operand}
 use Rattle.ladder_tree.specs.declared.element.Operand.TheVariants.{Var, Num}
+use Rattle.ladder_tree.specs.declared.limits.TheConstants.{TABLE_VALUES}
 use Rattle.texts.specs.Lines.{onto}
+use Rattle.texts.specs.declared.limits.TheConstants.{LINE_BYTES}
 use Rattle.ld_line.proofs.SaidLemmas.{if_map, if_then, if_weak, if_both}
 use Rattle.ld_line.proofs.TokenLemmas.{length-behind}
 use Rattle.ld_line.proofs.WordLemmas.{spelled_word}
 use Rattle.ld_line.specs.Elements.{counted, table_head, table, integers}
-use Rattle.ld_line.specs.Numbers.{signed, number, in_range, natural_in, integer, most_items}
+use Rattle.ld_line.specs.Numbers.{signed, number, in_range, natural_in, integer}
 use Rattle.ld_line.specs.Operands as read
 use Rattle.ld_line.specs.Range.{is_integer}
 use Rattle.ld_line.specs.Said.{IfIs, said_map, both}
@@ -242,9 +244,9 @@ table_fits (d ∷ []) h = tt
 table_fits (d ∷ i ∷ []) h = tt
 table_fits (d ∷ i ∷ c ∷ []) h = tt
 table_fits (d ∷ i ∷ c ∷ f ∷ vs) h =
-    let how = both (natural_in 0 most_items c) (read.flag f) in
+    let how = both (natural_in 0 TABLE_VALUES c) (read.flag f) in
     let head : IfIs (table_head d i) (HeadShorter d i) = if_both (λ n. length n ≤ length d) (λ o. length (words.operand_text o) ≤ length i) (read.name d) (read.operand i) (name_shorter d) (operand_shorter i) in
-    let how_said : IfIs how (HowShorter c f) = if_both (λ n. length (decimal n) ≤ length c) (λ b. length (words.flag b) ≤ length f) (natural_in 0 most_items c) (read.flag f) (natural_shorter 0 most_items c (omega arith)) (flag_shorter f) in
+    let how_said : IfIs how (HowShorter c f) = if_both (λ n. length (decimal n) ≤ length c) (λ b. length (words.flag b) ≤ length f) (natural_in 0 TABLE_VALUES c) (read.flag f) (natural_shorter 0 TABLE_VALUES c (omega arith)) (flag_shorter f) in
     let tail : IfIs (both how (integers vs)) (TailShorter c f vs) = if_both (HowShorter c f) (λ ns. length (behind_spaces (words.integers ns)) ≤ length (behind_spaces vs)) how (integers vs) how_said (integers_shorter vs) in
     let whole = both (table_head d i) (both how (integers vs)) in
     if_then (λ p. counted p.0.0 p.0.1 p.1.0.0 p.1.0.1 p.1.1) TextFits whole
@@ -279,7 +281,7 @@ tokens_length bytes =
     omega (arith, fewer_tokens is_some_bytes (between_blanks line), between_length line, length-reverse (behind is_return (reverse bytes)), length-behind is_return (reverse bytes), length-reverse bytes)
 
 -- what stands behind the word of a table on a line that is not too long
-pub table_room : (bytes token : List ℕ) (ts : List (List ℕ)) → length bytes ≤ 512 → tokens bytes ≡ token ∷ ts → word_of token ≡ Some word.LookUpTable
+pub table_room : (bytes token : List ℕ) (ts : List (List ℕ)) → length bytes ≤ LINE_BYTES → tokens bytes ≡ token ∷ ts → word_of token ≡ Some word.LookUpTable
     → length (behind_spaces ts) ≤ 499
 table_room bytes token ts short e w =
     omega (arith, short, tokens_length bytes, ap (λ x. length (behind_spaces x)) e, length-behind_spaces token ts, ap length (spelled_word token word.LookUpTable w))

@@ -7,6 +7,7 @@ use Rattle.chip_tables.specs.declared.target.Target.{Target}
 use Rattle.ladder_tree.specs.declared.element.Leaf as leaf
 use Rattle.ladder_tree.specs.declared.fault.ProjectFault.{ProjectFault}
 use Rattle.ladder_tree.specs.declared.fault.ProjectFault.TheVariants as fault
+use Rattle.ladder_tree.specs.declared.limits.TheConstants.{RUNGS, ELEMENTS, OPENINGS, DEPTH}
 use Rattle.ld_line.specs.Tokens.{tokens}
 use Rattle.ld_line.specs.Words.{is_target_built}
 use Rattle.ld_line.specs.declared.said.Said.TheVariants.{Is}
@@ -32,6 +33,7 @@ use Rattle.ld_print.proofs.ElementLemmas.{element_said, element_fits}
 use Rattle.ld_print.proofs.FineLemmas.{Fine, AllFine, at_element, unsized, behind_unsized}
 use Rattle.ld_print.proofs.MarkLemmas.{circuit_word, mark_line, indent_behind, mark_lines}
 use Rattle.ld_print.proofs.NumberedLemmas.{with_line, numbered}
+use Rattle.texts.specs.declared.limits.TheConstants.{LINE_BYTES, FILE_BYTES}
 
 abbrev pub line_of : List ℕ → Line
 line_of bytes = record { bytes = bytes; is_ended = true }
@@ -45,13 +47,13 @@ pub record Goes (p : Place) (n : ℕ) (ls : List Line) (fs : List LineForm) : Ty
 -- a line of which this is known goes, where there is room for it
 pub record LineGoes (p : Place) (n : ℕ) (bytes : List ℕ) (f : LineForm) : Type 0 where
   pub said : said_in p.site n bytes ≡ Is f
-  pub short : length bytes ≤ 512
+  pub short : length bytes ≤ LINE_BYTES
   pub free : is_first p.site ≡ false → begins_unbuilt p.target (tokens bytes) ≡ false
   pub built : names_unbuilt (Is f) ≡ false
   pub chip : is_chipless p.target (Is f) ≡ false
   pub shallow : is_too_deep p (Is f) ≡ false
   pub few : is_one_too_many p (Is f) ≡ false
-  pub room : p.bytes + (length bytes + 1) ≤ 8388608
+  pub room : p.bytes + (length bytes + 1) ≤ FILE_BYTES
 
 no_row : (a b c d e f g h : Bool) (r s t u v w x y : ProjectFault) → a ≡ false → b ≡ false → c ≡ false → d ≡ false → e ≡ false → f ≡ false → g ≡ false
     → h ≡ false → first_row (row a r ∷ row b s ∷ row c t ∷ row d u ∷ row e v ∷ row f w ∷ row g x ∷ row h y ∷ []) ≡ None
@@ -60,14 +62,14 @@ no_row a b c d e f g h r s t u v w x y ea eb ec ed ee ef eg eh = rw (ea, eb, ec,
 no_fault : (p : Place) (n : ℕ) (bytes : List ℕ) (f : LineForm) → LineGoes p n bytes f → fault_at p n (line_of bytes) ≡ None
 no_fault p n bytes f g =
     ap (fault_of p n bytes (length bytes + 1)) g.said
-    ∙ no_row (ltb 512 (length bytes)) (is_first p.site && false) (not (is_first p.site) && (begins_unbuilt p.target (tokens bytes) || names_unbuilt (Is f))) false (is_chipless p.target (Is f)) false (is_too_deep p (Is f)) (is_one_too_many p (Is f) || ltb 8388608 (p.bytes + (length bytes + 1)))
+    ∙ no_row (ltb LINE_BYTES (length bytes)) (is_first p.site && false) (not (is_first p.site) && (begins_unbuilt p.target (tokens bytes) || names_unbuilt (Is f))) false (is_chipless p.target (Is f)) false (is_too_deep p (Is f)) (is_one_too_many p (Is f) || ltb FILE_BYTES (p.bytes + (length bytes + 1)))
     (fault.LineTooLong n) (fault.NotProject n) (fault.NotBuilt n) (fault.BadLine n) (fault.UnknownChip n) (fault.NumberRange n) (fault.TooDeep n) (fault.TooMany n)
     long (no (is_first p.site)) (free (is_first p.site) g.free) refl g.chip refl g.shallow (few (is_one_too_many p (Is f)) g.few)
   where
-    long : ltb 512 (length bytes) ≡ false
+    long : ltb LINE_BYTES (length bytes) ≡ false
     long = let s = g.short in grind (arith, nat_tests)
 
-    far : ltb 8388608 (p.bytes + (length bytes + 1)) ≡ false
+    far : ltb FILE_BYTES (p.bytes + (length bytes + 1)) ≡ false
     far = let s = g.room in grind (arith, nat_tests)
 
     no : (b : Bool) → (b && false) ≡ false
@@ -79,8 +81,8 @@ no_fault p n bytes f g =
     free true h = refl
     free false h = ap (λ x. x || names_unbuilt (Is f)) (h refl) ∙ g.built
 
-    few : (b : Bool) → b ≡ false → (b || ltb 8388608 (p.bytes + (length bytes + 1))) ≡ false
-    few b h = ap (λ x. x || ltb 8388608 (p.bytes + (length bytes + 1))) h ∙ far
+    few : (b : Bool) → b ≡ false → (b || ltb FILE_BYTES (p.bytes + (length bytes + 1))) ≡ false
+    few b h = ap (λ x. x || ltb FILE_BYTES (p.bytes + (length bytes + 1))) h ∙ far
 
 behind_line : (p : Place) (n : ℕ) (bytes : List ℕ) (f : LineForm) → LineGoes p n bytes f →
     place.behind p n (line_of bytes) ≡ record (behind_form p f) { bytes = p.bytes + (length bytes + 1) }
@@ -129,10 +131,10 @@ IndentAt site.Pins depth i = ⊥
 -- the bytes so far, and the counts
 pub record Bounds (p : Place) (i : ℕ) : Type 0 where
   pub indent : IndentAt p.site p.depth i
-  pub depth : p.depth ≤ 16
-  pub rungs : p.rungs ≤ 500
-  pub elements : p.elements ≤ 4000
-  pub openings : p.openings ≤ 4000
+  pub depth : p.depth ≤ DEPTH
+  pub rungs : p.rungs ≤ RUNGS
+  pub elements : p.elements ≤ ELEMENTS
+  pub openings : p.openings ≤ OPENINGS
   pub bytes : p.bytes + 25 * i ≤ 500000 + 513 * p.elements + 200 * p.rungs + 200 * p.openings
 
 -- a line is printed behind its indent, or without one
@@ -140,18 +142,18 @@ record Indented (i : ℕ) (words : List ℕ) : Type 0 where
   count : ℕ
   is : indented i words ≡ replicate count 32 ++ words
   low : count ≤ i
-  short : length (indented i words) ≤ 512
+  short : length (indented i words) ≤ LINE_BYTES
 
 size_indented : (k : ℕ) (words : List ℕ) → length (replicate k 32 ++ words) ≡ k + length words
 size_indented k words = omega (arith, length-append (replicate k 32) words, length-replicate {A = ℕ} k 32)
 
-indented_is : (i : ℕ) (words : List ℕ) → length words ≤ 512 → Indented i words
-indented_is i words h = by (nat_le (i + length words) 512) refl
+indented_is : (i : ℕ) (words : List ℕ) → length words ≤ LINE_BYTES → Indented i words
+indented_is i words h = by (nat_le (i + length words) LINE_BYTES) refl
   where
-    by : (b : Bool) → nat_le (i + length words) 512 ≡ b → Indented i words
+    by : (b : Bool) → nat_le (i + length words) LINE_BYTES ≡ b → Indented i words
     by true e =
         let is : indented i words ≡ replicate i 32 ++ words = ap (λ b. if b then replicate i 32 ++ words else words) e in
-        let fits : i + length words ≤ 512 = grind (arith, nat_tests) in
+        let fits : i + length words ≤ LINE_BYTES = grind (arith, nat_tests) in
         record { count = i; is = is; low = omega arith; short = omega (arith, ap length is, size_indented i words, fits) }
     by false e =
         let is : indented i words ≡ words = ap (λ b. if b then replicate i 32 ++ words else words) e in
@@ -207,7 +209,7 @@ rung_steps : (p : Place) (i n : ℕ) (t : Target) → p.target ≡ Some t → Bo
 rung_steps p i n t g b f =
     let e = at_rung p.site f.allowed in
     let at : IndentAt site.Between p.depth i = subst (λ x. IndentAt x p.depth i) e b.indent in
-    let few = below 500 p.rungs f.few in
+    let few = below RUNGS p.rungs f.few in
     record {
       line = record {
         said = ap (λ x. said_in x n (codes "RUNG")) e;
@@ -238,8 +240,8 @@ open_steps : (p : Place) (i n : ℕ) (t : Target) (c : Circuit) → p.target ≡
 open_steps p i n t c g b f =
     let e = at_open p.site c f.allowed in
     let at : IndentAt site.Inside p.depth i = subst (λ x. IndentAt x p.depth i) e b.indent in
-    let few = below 4000 p.openings f.few in
-    let deep = below 16 p.depth f.shallow in
+    let few = below OPENINGS p.openings f.few in
+    let deep = below DEPTH p.depth f.shallow in
     let word = circuit_token c in
     let w = word_said i (circuit_word c) word.0 (omega (arith, word.1)) in
     let says = open_says n c (indented i (circuit_word c)) w.tokens in
@@ -320,7 +322,7 @@ element_steps : (p : Place) (i n : ℕ) (t : Target) (l : leaf.Leaf) → p.targe
     → Fine (unsized p) (Body (mark.Element l)) → Steps p i n t (mark.Element l)
 element_steps p i n t l g built b f =
     let e = at_element p.site l f.allowed in
-    let few = below 4000 p.elements f.few in
+    let few = below ELEMENTS p.elements f.few in
     let d = indented_is i (element_words l.kind) (element_fits l.kind f.fits).short in
     let s = element_said d.count l.kind f.fits in
     record {

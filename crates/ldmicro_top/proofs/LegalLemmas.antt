@@ -19,10 +19,11 @@ use Rattle.ladder_tree.specs.Leaves.{leaves, leaves_in, all_leaves, leaves_step}
 use Rattle.ladder_tree.specs.Names.{names_of, is_name, has_kind, is_well_named, all_well_named}
 use Rattle.ladder_tree.specs.Size.{size_of, size_in, size_of_all, size_step}
 use Rattle.ladder_tree.specs.declared.names.Names.{Names}
+use Rattle.ladder_tree.specs.declared.limits.TheConstants.{TABLE_VALUES}
 use Rattle.ladder_lower.specs.Outcome.{CanLower}
 use Rattle.ladder_rules.specs.Verdict.{rule}
 use Rattle.ldmicro_top.proofs.FitLemmas.{cycle_some, fits_all}
-use Rattle.ladder_rules.specs.Limits.{IsShort, IsWithinLimits, extent}
+use Rattle.ladder_rules.specs.Limits.{IsShort, IsWithinLimits, extent, most_extent}
 use Rattle.ld_line.specs.Range.{is_read_kind}
 use Rattle.ld_text.specs.Within.{IsWithin}
 
@@ -104,13 +105,13 @@ is_sized p w = omega (arith, rungs_sized p.rungs, w.elements, w.forms, w.rungs)
 
 -- the limits that the rules ask for
 
-small : (n : ℕ) → nat_le n 60 ≡ true → n ≤ 60
+small : (n : ℕ) → nat_le n most_extent ≡ true → n ≤ most_extent
 small n h = grind (arith, nat_tests)
 
-short_kind : (k : LeafKind) → is_read_kind k ≡ true → extent k ≤ 60
+short_kind : (k : LeafKind) → is_read_kind k ≡ true → extent k ≤ most_extent
 short_kind (kind.Shift name places) h = let a = both_true (is_name name) _ h in let b = both_true (nat_le 1 places) _ a.1 in small places b.1
 short_kind (kind.Table dest index as_text values) h =
-    let a = both_true (is_name dest) _ h in let b = both_true _ (nat_le (length values) 60) a.1 in small (length values) b.1
+    let a = both_true (is_name dest) _ h in let b = both_true _ (nat_le (length values) TABLE_VALUES) a.1 in small (length values) b.1
 short_kind _ h = omega arith
 
 all_short : (ls : List leaf.Leaf) → list_all (λ l. is_read_kind l.kind) ls ≡ true → All IsShort ls

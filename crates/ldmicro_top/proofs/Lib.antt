@@ -13,4 +13,3 @@ pub mod MemberLemmas
 pub mod NamedLemmas
 pub mod RoomLemmas
 pub mod VariableLemmas
-pub mod SoughtLemmas

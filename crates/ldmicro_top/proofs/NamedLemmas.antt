@@ -10,6 +10,7 @@ use Rattle.ladder_tree.specs.declared.names.Names.{Names}
 use Rattle.ladder_tree.specs.declared.project.Project.{Project}
 use Rattle.ladder_tree.specs.declared.project.Rung.{Rung}
 use Rattle.ladder_tree.specs.Leaves.{all_leaves}
+use Rattle.ladder_tree.specs.declared.limits.TheConstants.{NAME_BYTES}
 use Rattle.int_code.specs.declared.op.IntProgram.{IntProgram}
 use Rattle.int_code.specs.WellFormed.{IsWellFormed}
 use Rattle.ladder_lower.specs.Outcome.{HasSizes, HasRoom}
@@ -91,7 +92,7 @@ bits_named (l ∷ ls) h =
 pub listed_named : (is_kind : List ℕ → Bool) (ls : List leaf.Leaf) → all_well_named ls ≡ true → list_all is_name (firsts (appearances is_kind ls)) ≡ true
 listed_named is_kind ls h = all_firsts_from is_name [] (appearances is_kind ls) refl (all_filter is_name is_kind (all_bits ls) (bits_named ls h))
 
-within_more : (n : ℕ) → nat_le n 64 ≡ true → nat_le n 66 ≡ true
+within_more : (n : ℕ) → nat_le n NAME_BYTES ≡ true → nat_le n 66 ≡ true
 within_more n h = grind (arith, nat_tests)
 
 and_last : (a b c d : Bool) → (c ≡ true → d ≡ true) → a && (b && c) ≡ true → a && (b && d) ≡ true
@@ -103,7 +104,7 @@ and_last false b c d f h = cc
 within_66 : (name : List ℕ) → is_name name ≡ true → is_name_within 66 name ≡ true
 within_66 [] h = cc
 within_66 (b ∷ bs) h =
-    and_last (not (is_digit b)) (list_all is_name_byte (b ∷ bs)) (nat_le (length (b ∷ bs)) 64) (nat_le (length (b ∷ bs)) 66) (within_more (length (b ∷ bs))) h
+    and_last (not (is_digit b)) (list_all is_name_byte (b ∷ bs)) (nat_le (length (b ∷ bs)) NAME_BYTES) (nat_le (length (b ∷ bs)) 66) (within_more (length (b ∷ bs))) h
 
 all_within : (names : List (List ℕ)) → list_all is_name names ≡ true → list_all (is_name_within 66) names ≡ true
 all_within [] h = refl

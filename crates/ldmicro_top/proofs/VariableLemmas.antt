@@ -11,6 +11,7 @@ use Rattle.ladder_tree.specs.declared.element.LeafKind.{LeafKind}
 use Rattle.ladder_tree.specs.declared.element.LeafKind.TheVariants as kind
 use Rattle.ladder_tree.specs.declared.element.Operand.{Operand}
 use Rattle.ladder_tree.specs.declared.element.Operand.TheVariants.{Var, Num}
+use Rattle.ladder_tree.specs.declared.limits.TheConstants.{NAME_BYTES, SHIFT_PLACES}
 use Rattle.ld_line.specs.Range.{is_integer, is_read_kind, is_read_operand}
 
 abbrev are_within : List (List ℕ) → Bool
@@ -45,13 +46,13 @@ is_within : (n most : ℕ) → n ≤ most → nat_le n most ≡ true
 is_within n most h = grind (arith, nat_tests)
 
 -- a name, and a number of two digits behind it
-numbered_within : (name : List ℕ) (k : ℕ) → is_name name ≡ true → k < 60 → is_name_within 66 (name ++ decimal k) ≡ true
+numbered_within : (name : List ℕ) (k : ℕ) → is_name name ≡ true → k < SHIFT_PLACES → is_name_within 66 (name ++ decimal k) ≡ true
 numbered_within [] k h lt = absurd cc
 numbered_within (b ∷ bs) k h lt =
     let p = parts (not (is_digit b)) _ h in
     let q = parts (list_all is_name_byte (b ∷ bs)) _ p.1 in
     let two = length-decimal-le 2 k (lit< tt) (omega (arith, lt)) (omega (arith, lt)) in
-    let le = within (length (b ∷ bs)) 64 q.1 in
+    let le = within (length (b ∷ bs)) NAME_BYTES q.1 in
     both _ _ p.0 (both _ _
     (bytes_joined (b ∷ bs) (decimal k) q.0 (digits_bytes (decimal k) (decimal_digits k (omega (arith, lt)))))
     (is_within _ 66 (omega (arith, two, le, length-append bs (decimal k)))))
@@ -61,7 +62,7 @@ within_66 [] h = cc
 within_66 (b ∷ bs) h =
     let p = parts (not (is_digit b)) _ h in
     let q = parts (list_all is_name_byte (b ∷ bs)) _ p.1 in
-    both _ _ p.0 (both _ _ q.0 (is_within (length (b ∷ bs)) 66 (let le = within (length (b ∷ bs)) 64 q.1 in omega (arith, le))))
+    both _ _ p.0 (both _ _ q.0 (is_within (length (b ∷ bs)) 66 (let le = within (length (b ∷ bs)) NAME_BYTES q.1 in omega (arith, le))))
 
 joined : (a b : List (List ℕ)) → are_within a ≡ true → are_within b ≡ true → are_within (a ++ b) ≡ true
 joined [] b f g = g
@@ -74,7 +75,7 @@ operand_within : (a : Operand) → is_read_operand a ≡ true → are_within (op
 operand_within (Var name) h = one name h
 operand_within (Num n) h = refl
 
-numbered_all : (name : List ℕ) (k : ℕ) → is_name name ≡ true → k ≤ 60 → are_within (numbered_names name k) ≡ true
+numbered_all : (name : List ℕ) (k : ℕ) → is_name name ≡ true → k ≤ SHIFT_PLACES → are_within (numbered_names name k) ≡ true
 numbered_all name zero h le = refl
 numbered_all name (suc k) h le =
     joined (numbered_names name k) _ (numbered_all name k h (omega (arith, le))) (both _ _ (numbered_within name k h (omega (arith, le))) refl)
@@ -96,7 +97,7 @@ names_within (kind.Compare how a b) h =
 names_within (kind.Shift name places) h =
     let p = parts (is_name name) _ h in
     let q = parts (nat_le 1 places) _ p.1 in
-    numbered_all name places p.0 (within places 60 q.1)
+    numbered_all name places p.0 (within places SHIFT_PLACES q.1)
 names_within (kind.Table dest index as_text values) h =
     let p = parts (is_name dest) _ h in
     let q = parts (is_read_operand index && list_all is_integer values) _ p.1 in

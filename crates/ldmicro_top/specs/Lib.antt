@@ -12,4 +12,3 @@ pub mod Steps
 pub mod Judged
 pub mod Replayed
 pub mod Sources
-pub mod Sought

@@ -1,7 +1,9 @@
-use Rattle.std.proofs.Common.{◌∙◌}
+use Rattle.std.proofs.Common.{ap, ◌∙◌}
+use Rattle.std.specs.Prelude.{is_some}
 use Rattle.ladder_tree.specs.Leaves.{all_leaves}
-use Rattle.ladder_lower.proofs.MasterLemmas.{master_found}
+use Rattle.ladder_tree.proofs.SoughtLemmas.{any_found}
+use Rattle.ladder_lower.specs.Masters.{is_master}
 use Rattle.ladder_lower.proofs.survey.has_master.Goals as goal
 
 pub returns : goal.returns
-returns c = c.is_some.ensures ∙ master_found _ _ (all_leaves c.args.rungs.now) _ c.visit_all.ensures
+returns c = c.is_some.ensures ∙ ap (λ w. is_some w.0) c.visit_all.ensures ∙ any_found (λ v l. is_master l.kind) _ (all_leaves c.args.rungs.now)

@@ -2,7 +2,7 @@ use Rattle.std.proofs.Common.{ap, ◌∙◌}
 use Rattle.std.specs.Prelude.{is_some}
 use Rattle.ladder_tree.specs.Leaves.{all_leaves}
 use Rattle.ladder_rules.specs.Needs.{uses}
-use Rattle.ladder_rules.proofs.SoughtLemmas.{any_found}
+use Rattle.ladder_tree.proofs.SoughtLemmas.{any_found}
 use Rattle.ladder_rules.proofs.survey.any_uses.Goals as goal
 
 pub returns : goal.returns

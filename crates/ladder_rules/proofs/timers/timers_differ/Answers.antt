@@ -10,4 +10,5 @@ returns c = λ t.
     let p = c.args.project.now in
     let met = c.none_met.ensures in
     timers_apart p c.none_met.result (met.rungs ∙ c.as_slice-rungs.ensures) met.passed met.marks c.requires
-    (ap (λ gs. (visits looks c.none_met.result (all_leaves gs)).0) (sym c.as_slice-rungs.ensures) ∙ sym (ap (λ w. w.0) c.visit_all.ensures) ∙ none_so c.is_none.result c.visit_all.result c.is_none.ensures t)
+    (ap (λ gs. (visits looks c.none_met.result (all_leaves gs)).0) (sym c.as_slice-rungs.ensures) ∙ sym (ap (λ w. w.0) c.visit_all.ensures) ∙ none_so
+    c.is_none.result c.visit_all.result c.is_none.ensures t)

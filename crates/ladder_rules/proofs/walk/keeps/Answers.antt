@@ -20,7 +20,9 @@ returns-in_err-passed c =
     let broken = fault_of c.args.rule c.args.ladder.now.project.now in
     let all = all_leaves c.args.ladder.now.project.now.rungs in
     rw (p.1, p.2) (refused _ _ (whole_walk broken c.args.ladder.now.project.now.rungs (Err c.in_err-passed.field-0.0)
-    (walk_step broken all c.loop-rung.passed (placed_series g.nodes true) (all_placed (drop (i + 1) gs)) (all_placed (drop i gs)) (Err c.in_err-passed.field-0.0) _ (placed_front gs i g c.loop-rung-test.true c.rung-item.is) (rw c.as_slice.ensures at c.in_err-passed.ensures) c.loop-rung.invariant.walk)))
+    (walk_step broken all c.loop-rung.passed (placed_series g.nodes true) (all_placed (drop (i + 1) gs)) (all_placed (drop i gs))
+    (Err c.in_err-passed.field-0.0) _ (placed_front gs i g c.loop-rung-test.true c.rung-item.is) (rw c.as_slice.ensures at c.in_err-passed.ensures)
+    c.loop-rung.invariant.walk)))
 
 pub loop-rung-preserved : goal.loop-rung-preserved
 loop-rung-preserved c =
@@ -29,8 +31,10 @@ loop-rung-preserved c =
     let all = all_leaves c.args.ladder.now.project.now.rungs in
     let front = placed_front gs i g c.loop-rung-test.true c.rung-item.is in
     record {
-      few = room_step broken all c.loop-rung.passed c.in_ok-passed.passed (placed_series g.nodes true) (all_placed (drop (i + 1) gs)) (all_placed (drop i gs)) front (rw c.as_slice.ensures at c.in_ok-passed.ensures) c.loop-rung.invariant.few;
-      walk = walk_step broken all c.loop-rung.passed (placed_series g.nodes true) (all_placed (drop (i + 1) gs)) (all_placed (drop i gs)) (Ok c.in_ok-passed.passed) _ front (rw c.as_slice.ensures at c.in_ok-passed.ensures) c.loop-rung.invariant.walk;
+      few = room_step broken all c.loop-rung.passed c.in_ok-passed.passed (placed_series g.nodes true) (all_placed (drop (i + 1) gs)) (all_placed (drop i gs))
+          front (rw c.as_slice.ensures at c.in_ok-passed.ensures) c.loop-rung.invariant.few;
+      walk = walk_step broken all c.loop-rung.passed (placed_series g.nodes true) (all_placed (drop (i + 1) gs)) (all_placed (drop i gs))
+          (Ok c.in_ok-passed.passed) _ front (rw c.as_slice.ensures at c.in_ok-passed.ensures) c.loop-rung.invariant.walk;
     }
 
 pub returns : goal.returns
@@ -39,4 +43,5 @@ returns c =
     let broken = fault_of c.args.rule c.args.ladder.now.project.now in
     let all = all_leaves c.args.ladder.now.project.now.rungs in
     accepted _ (whole_walk broken c.args.ladder.now.project.now.rungs (Ok c.loop-rung.passed)
-    (ap (λ (rest : List Rung). walk broken all c.loop-rung.passed (all_placed rest)) (none_behind gs c.loop-rung.rung-index c.loop-rung-test.false) ∙ c.loop-rung.invariant.walk))
+    (ap (λ (rest : List Rung). walk broken all c.loop-rung.passed (all_placed rest)) (none_behind gs c.loop-rung.rung-index c.loop-rung-test.false) ∙
+    c.loop-rung.invariant.walk))

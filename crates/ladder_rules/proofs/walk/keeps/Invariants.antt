@@ -10,5 +10,6 @@ invariant-loop-rung l =
     let left = all_placed (drop l.rung-index l.rung-items) in
     record {
       few : l.passed + length left < 2 ^ 32;
-      walk : walk (fault_of l.rule l.ladder.project.now) (all_leaves l.ladder.project.now.rungs) l.passed left ≡ walk (fault_of l.rule l.ladder.project.now) (all_leaves l.ladder.project.now.rungs) 0 (all_placed l.ladder.project.now.rungs);
+      walk : walk (fault_of l.rule l.ladder.project.now) (all_leaves l.ladder.project.now.rungs) l.passed left ≡ walk (fault_of l.rule l.ladder.project.now)
+          (all_leaves l.ladder.project.now.rungs) 0 (all_placed l.ladder.project.now.rungs);
     }
