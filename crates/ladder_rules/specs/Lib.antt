@@ -1,13 +1,14 @@
 -- What the rules and the needs mean.
 pub mod Assigned
 pub mod ChipRules
-pub mod Kinds
+pub mod Formatted
 pub mod Limits
 pub mod Needs
 pub mod Pins
 pub mod Places
 pub mod Rules
 pub mod Settings
+pub mod Timing
 pub mod Twice
 pub mod Verdict
 -- What only the code and its proofs speak of.

@@ -1,5 +1,5 @@
 -- How large a project may be.
-use Rattle.std.specs.Prelude.{ℕ, ◌≤◌, max, List, length, All}
+use Rattle.std.specs.Prelude.{ℕ, ◌≤◌, ◌/◌, max, List, length, All}
 use Rattle.ladder_tree.specs.Forms.{forms_of_all}
 use Rattle.ladder_tree.specs.Leaves.{all_leaves}
 use Rattle.ladder_tree.specs.declared.element.Leaf as element
@@ -7,8 +7,9 @@ use Rattle.ladder_tree.specs.declared.element.LeafKind.{LeafKind}
 use Rattle.ladder_tree.specs.declared.element.LeafKind.TheVariants.{Contacts, Coil, Osr, Osf, Short, Open, MasterRelay, Placeholder, Comment, Timer, Counter, Reset, Move, Math, Compare, Shift, Table, ReadAdc, SetPwm, Recv, Send, Persist, Linear, Formatted}
 use Rattle.ladder_tree.specs.declared.limits.TheConstants.{RUNGS, ELEMENTS, OPENINGS, SHIFT_PLACES, TABLE_VALUES}
 use Rattle.ladder_tree.specs.declared.project.Rung.{Rung}
+use Rattle.ladder_rules.specs.Formatted.{sent_length}
 
--- how many places or values an element has
+-- how many places, values or points an element has, or bytes it sends
 abbrev pub extent : LeafKind → ℕ
 extent (Contacts name neg) = 0
 extent (Coil name mode) = 0
@@ -32,10 +33,10 @@ extent (SetPwm name hz) = 0
 extent (Recv name) = 0
 extent (Send name) = 0
 extent (Persist name) = 0
-extent (Linear dest index points) = 0
-extent (Formatted name text) = 0
+extent (Linear dest index points) = length points / 2
+extent (Formatted name text) = sent_length text
 
--- the most places of a shift register, and values of a table
+-- the most places of a shift register, and values of a table; the others have fewer
 abbrev pub most_extent : ℕ
 most_extent = max SHIFT_PLACES TABLE_VALUES
 

@@ -1,5 +1,5 @@
 -- What a project needs at most: words of program flash, instruction cycles in a cycle of the ladder and before the first.
-use Rattle.std.specs.Prelude.{ℕ, ◌+◌, ◌-◌, ◌*◌, Bool, true, false, ◌||◌, if◌then◌else◌, List, [], ◌∷◌, length, sum, map}
+use Rattle.std.specs.Prelude.{ℕ, ◌+◌, ◌-◌, ◌*◌, Bool, true, false, if◌then◌else◌, List, [], ◌∷◌, length, sum, map}
 use Rattle.std.specs.List.{list_any, count_by}
 use Rattle.std.specs.Option.{option_map_or}
 use Rattle.chip_tables.specs.Cost.{cost_of}
@@ -21,7 +21,8 @@ use Rattle.ladder_tree.specs.declared.project.Node.TheOpen.{Node-F}
 use Rattle.ladder_tree.specs.declared.project.Node.TheFolds.{fold-Node}
 use Rattle.ladder_tree.specs.declared.project.Project.{Project}
 use Rattle.ladder_tree.specs.declared.project.Rung.{Rung}
-use Rattle.ladder_rules.specs.Kinds.{timing_of, math_of}
+use Rattle.ladder_rules.specs.Formatted.{field_of, has_field}
+use Rattle.ladder_rules.specs.Timing.{timing_of}
 use Rattle.ladder_rules.specs.Limits.{extent}
 use Rattle.ladder_rules.specs.declared.limits.TheConstants.{F628_BOOT, F877_BOOT, MEGA16_BOOT, TOF_BOOT}
 use Rattle.ladder_rules.specs.declared.cost.Column.{Column}
@@ -40,8 +41,7 @@ math_row Sub = cost.AddSub
 math_row Mul = cost.Mul
 math_row Div = cost.Div
 
--- An element's row in the table of costs. A placeholder and the two elements that are not built have no row of their own,
--- and no code.
+-- An element's row in the table of costs. A placeholder has none of its own, and no code.
 abbrev pub row_of_element : LeafKind → CostKind
 row_of_element (Contacts name neg) = cost.Contacts
 row_of_element (Coil name mode) = cost.Coil
@@ -65,11 +65,11 @@ row_of_element (SetPwm name hz) = cost.SetPwm
 row_of_element (Recv name) = cost.Uart
 row_of_element (Send name) = cost.Uart
 row_of_element (Persist name) = cost.Persist
-row_of_element (Linear dest index points) = cost.Still
-row_of_element (Formatted name text) = cost.Still
+row_of_element (Linear dest index points) = cost.Linear
+row_of_element (Formatted name text) = cost.Formatted
 
--- how often the growing part of words and cycles counts: for each place of a shift register after the first, and for each
--- value of a table
+-- how often the growing part of words and cycles counts: for each place of a shift register after the first, for each value of a
+-- table and each point, and for each byte of a formatted string
 abbrev pub steps : LeafKind → ℕ
 steps (Shift name places) = places - 1
 steps k = extent k
@@ -80,11 +80,47 @@ fixed Words t k = (cost_of t k).words
 fixed Cycles t k = (cost_of t k).cycles
 fixed Ops t k = (cost_of t k).ops
 
--- what counts for each place or value
+-- what counts for each place, value, point or byte
+abbrev pub each : Column → Target → CostKind → ℕ
+each Words t k = (cost_of t k).words_each
+each Cycles t k = (cost_of t k).cycles_each
+each Ops t k = (cost_of t k).ops_each
+
+-- how often it counts
+abbrev pub times : Column → LeafKind → ℕ
+times Words k = steps k
+times Cycles k = steps k
+times Ops k = extent k
+
+-- the bytes of a formatted string's field, which have a row of their own
+abbrev pub field_bytes : LeafKind → ℕ
+field_bytes (Contacts name neg) = 0
+field_bytes (Coil name mode) = 0
+field_bytes Osr = 0
+field_bytes Osf = 0
+field_bytes Short = 0
+field_bytes Open = 0
+field_bytes MasterRelay = 0
+field_bytes Placeholder = 0
+field_bytes (Comment text) = 0
+field_bytes (Timer how name delay) = 0
+field_bytes (Counter how name max) = 0
+field_bytes (Reset name) = 0
+field_bytes (Move dest src) = 0
+field_bytes (Math how dest a b) = 0
+field_bytes (Compare how a b) = 0
+field_bytes (Shift name places) = 0
+field_bytes (Table dest index as_text values) = 0
+field_bytes (ReadAdc name) = 0
+field_bytes (SetPwm name hz) = 0
+field_bytes (Recv name) = 0
+field_bytes (Send name) = 0
+field_bytes (Persist name) = 0
+field_bytes (Linear dest index points) = 0
+field_bytes (Formatted name text) = (field_of text).given
+
 abbrev pub growing : Column → Target → LeafKind → ℕ
-growing Words t k = (cost_of t (row_of_element k)).words_each * steps k
-growing Cycles t k = (cost_of t (row_of_element k)).cycles_each * steps k
-growing Ops t k = (cost_of t (row_of_element k)).ops_each * extent k
+growing c t k = each c t (row_of_element k) * times c k + each c t cost.FormattedField * field_bytes k
 
 abbrev pub element_cost : Column → Target → LeafKind → ℕ
 element_cost c t k = fixed c t (row_of_element k) + growing c t k
@@ -121,10 +157,37 @@ is_div Sub = false
 is_div Mul = false
 is_div Div = true
 
--- which elements make a feature's words count, once for all of them; a SET_PWM multiplies and divides
+-- Whether an element does arithmetic of a kind. A SET_PWM, a piecewise linear function and the field of a formatted string multiply and divide.
+abbrev pub calls : (MathHow → Bool) → LeafKind → Bool
+calls is (Contacts name neg) = false
+calls is (Coil name mode) = false
+calls is Osr = false
+calls is Osf = false
+calls is Short = false
+calls is Open = false
+calls is MasterRelay = false
+calls is Placeholder = false
+calls is (Comment text) = false
+calls is (Timer how name delay) = false
+calls is (Counter how name max) = false
+calls is (Reset name) = false
+calls is (Move dest src) = false
+calls is (Math how dest a b) = is how
+calls is (Compare how a b) = false
+calls is (Shift name places) = false
+calls is (Table dest index as_text values) = false
+calls is (ReadAdc name) = false
+calls is (SetPwm name hz) = true
+calls is (Recv name) = false
+calls is (Send name) = false
+calls is (Persist name) = false
+calls is (Linear dest index points) = true
+calls is (Formatted name text) = has_field text
+
+-- which elements make a feature's words count, once for all of them
 abbrev pub uses : Feature → LeafKind → Bool
-uses Products k = option_map_or is_mul (math_of k) false || uses_pwm k
-uses Quotients k = option_map_or is_div (math_of k) false || uses_pwm k
+uses Products k = calls is_mul k
+uses Quotients k = calls is_div k
 uses Persistence k = uses_eeprom k
 uses Serial k = uses_uart k
 uses Analog k = uses_adc k

@@ -16,7 +16,7 @@ use Rattle.ladder_tree.specs.declared.fault.ProjectFault.{ProjectFault}
 use Rattle.ladder_tree.specs.declared.fault.ProjectFault.TheVariants as fault
 use Rattle.ladder_tree.specs.declared.project.Project.{Project}
 use Rattle.ladder_rules.specs.ChipRules.{chip_fault}
-use Rattle.ladder_rules.specs.Kinds.{timing_of}
+use Rattle.ladder_rules.specs.Timing.{timing_of}
 use Rattle.ladder_rules.specs.Pins.{is_chip}
 use Rattle.ladder_rules.specs.Places.{Spot}
 use Rattle.ladder_rules.specs.declared.limits.TheConstants.{LONGEST_PERIOD}

@@ -5,7 +5,7 @@ use Rattle.std.specs.Option.{option_map_or}
 use Rattle.ladder_tree.specs.Leaves.{all_leaves}
 use Rattle.ladder_tree.specs.declared.element.Leaf as element
 use Rattle.ladder_tree.specs.declared.element.LeafKind.{LeafKind}
-use Rattle.ladder_rules.specs.Kinds.{timing_of}
+use Rattle.ladder_rules.specs.Timing.{timing_of}
 use Rattle.ladder_rules.specs.Rules.{first_timer}
 use Rattle.ladder_rules.specs.declared.limits.TheConstants.{MARKS, MARK_FACTOR}
 use Rattle.ladder_rules.specs.declared.timers.TimersMet.{TimersMet}

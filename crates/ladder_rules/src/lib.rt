@@ -4,6 +4,7 @@
 mod assigned;
 mod chip_rule;
 mod cost;
+mod formatted;
 pub mod laws;
 mod legal;
 mod limits;

@@ -3,12 +3,11 @@
 ghost use Rattle.std.specs.Prelude.{◌≡◌, ◌^◌, ◌<◌};
 ghost use Rattle.std.specs.List.{list_any};
 ghost use Rattle.ladder_tree.specs.Leaves.{all_leaves};
-ghost use Rattle.std.specs.Option.{option_map_or};
 ghost use Rattle.ladder_tree.specs.Visit.{seeks_any};
-ghost use Rattle.ladder_rules.specs.Kinds.{math_of};
-ghost use Rattle.ladder_rules.specs.Needs.{is_mul, is_div, uses, row_of_feature, is_tof, tofs_in};
+ghost use Rattle.ladder_rules.specs.Needs.{is_mul, is_div, calls, uses, row_of_feature, is_tof, tofs_in};
 ghost use Rattle.ladder_rules.specs.Sought.{counts_tofs};
 
+use crate::formatted::field_bytes;
 use chip_tables::CostKind;
 use ladder_tree::element::{Leaf, LeafKind, MathHow, TimerHow};
 use ladder_tree::peripheral::{uses_adc, uses_eeprom, uses_pwm, uses_uart};
@@ -45,8 +44,8 @@ fn uses(feature: Feature, kind: &LeafKind) -> bool
     ensures { result ≡ uses feature kind.now }
 {
     match feature {
-        Feature::Products => multiplies(kind) || uses_pwm(kind),
-        Feature::Quotients => divides(kind) || uses_pwm(kind),
+        Feature::Products => multiplies(kind),
+        Feature::Quotients => divides(kind),
         Feature::Persistence => uses_eeprom(kind),
         Feature::Serial => uses_uart(kind),
         Feature::Analog => uses_adc(kind),
@@ -55,19 +54,23 @@ fn uses(feature: Feature, kind: &LeafKind) -> bool
 }
 
 fn multiplies(kind: &LeafKind) -> bool
-    ensures { result ≡ option_map_or is_mul (math_of kind.now) false }
+    ensures { result ≡ calls is_mul kind.now }
 {
     match kind {
         LeafKind::Math { how, .. } => matches!(how, MathHow::Mul),
+        LeafKind::SetPwm { .. } | LeafKind::Linear { .. } => true,
+        LeafKind::Formatted { text, .. } => field_bytes(text.as_slice()) > 0,
         _ => false,
     }
 }
 
 fn divides(kind: &LeafKind) -> bool
-    ensures { result ≡ option_map_or is_div (math_of kind.now) false }
+    ensures { result ≡ calls is_div kind.now }
 {
     match kind {
         LeafKind::Math { how, .. } => matches!(how, MathHow::Div),
+        LeafKind::SetPwm { .. } | LeafKind::Linear { .. } => true,
+        LeafKind::Formatted { text, .. } => field_bytes(text.as_slice()) > 0,
         _ => false,
     }
 }

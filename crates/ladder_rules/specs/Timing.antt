@@ -1,8 +1,7 @@
--- What rules and needs ask of an element's kind.
-use Rattle.std.specs.Prelude.{ℕ, Option, Some, None}
+-- What the rules ask of a timer.
+use Rattle.std.specs.Prelude.{ℕ, List, Option, Some, None}
 use Rattle.ladder_tree.specs.declared.element.LeafKind.{LeafKind}
 use Rattle.ladder_tree.specs.declared.element.LeafKind.TheVariants.{Contacts, Coil, Osr, Osf, Short, Open, MasterRelay, Placeholder, Comment, Timer, Counter, Reset, Move, Math, Compare, Shift, Table, ReadAdc, SetPwm, Recv, Send, Persist, Linear, Formatted}
-use Rattle.ladder_tree.specs.declared.element.MathHow.{MathHow}
 use Rattle.ladder_tree.specs.declared.element.TimerHow.{TimerHow}
 
 -- a timer's kind and name, and its delay in microseconds
@@ -36,30 +35,3 @@ timing_of (Send name) = None
 timing_of (Persist name) = None
 timing_of (Linear dest index points) = None
 timing_of (Formatted name text) = None
-
--- what arithmetic an element does
-abbrev pub math_of : LeafKind → Option MathHow
-math_of (Contacts name neg) = None
-math_of (Coil name mode) = None
-math_of Osr = None
-math_of Osf = None
-math_of Short = None
-math_of Open = None
-math_of MasterRelay = None
-math_of Placeholder = None
-math_of (Comment text) = None
-math_of (Timer how name delay) = None
-math_of (Counter how name max) = None
-math_of (Reset name) = None
-math_of (Move dest src) = None
-math_of (Math how dest a b) = Some how
-math_of (Compare how a b) = None
-math_of (Shift name places) = None
-math_of (Table dest index as_text values) = None
-math_of (ReadAdc name) = None
-math_of (SetPwm name hz) = None
-math_of (Recv name) = None
-math_of (Send name) = None
-math_of (Persist name) = None
-math_of (Linear dest index points) = None
-math_of (Formatted name text) = None
