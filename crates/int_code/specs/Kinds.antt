@@ -91,7 +91,33 @@ kinds kept (x ∷ ops) = kind_of kept x ∷ kinds kept ops
 -- how many operations of a program are one of the kind
 abbrev pub ops_of : Kind → ℕ
 ops_of (Guarded from to) = 3
-ops_of _ = 1
+ops_of (Set to) = 1
+ops_of (Clr to) = 1
+ops_of (Cpy to from) = 1
+ops_of (Not to from) = 1
+ops_of (Ifs from) = 1
+ops_of (Ifc from) = 1
+ops_of Iflt = 1
+ops_of Ifeq = 1
+ops_of Ifee = 1
+ops_of Els = 1
+ops_of Fi = 1
+ops_of Lit = 1
+ops_of Mov = 1
+ops_of Add = 1
+ops_of Sub = 1
+ops_of Mul = 1
+ops_of Div = 1
+ops_of Inc = 1
+ops_of Dec = 1
+ops_of Adc = 1
+ops_of Pwm = 1
+ops_of (Rx to) = 1
+ops_of (Tx from to) = 1
+ops_of (Eebusy to) = 1
+ops_of Eerd = 1
+ops_of Eewr = 1
+ops_of (Tab values) = 1
 
 -- No kind is there more often than in the list: whatever each costs, the sum is no more than the list's.
 abbrev pub IsWithin : List Kind → List Kind → Type 0

@@ -97,7 +97,8 @@ pub record Good (d : Draft) : Type 0 where
 
 pub good_start : Good start
 good_start = record {
-  names = record { inputs = refl; outputs = refl; analogs = refl; variables = refl; relays = refl; persistent = refl; analog_names = refl; persistent_variables = refl; starts = refl; few_relays = omega arith; few_persistent = omega arith };
+  names = record { inputs = refl; outputs = refl; analogs = refl; variables = refl; relays = refl; persistent = refl; analog_names = refl;
+      persistent_variables = refl; starts = refl; few_relays = omega arith; few_persistent = omega arith };
   operations = record { range = All-nil (IsInRange (sizes start)); open_ifs = λ rest. refl };
   at = record { inputs = refl; outputs = refl; analogs = refl; variables = refl; relays = refl; persistent = refl; ops = refl; ifs = refl };
 }
@@ -172,7 +173,8 @@ magic_grown : (d : Draft) → Good (record d { stage = stage.Start }) → Grown 
 magic_grown d g = record { more = refl; count = omega arith; good = record { names = g.names; operations = g.operations; at = new } }
   where
     new : IsNew (record d { stage = stage.Headed })
-    new = record { inputs = g.at.inputs; outputs = g.at.outputs; analogs = g.at.analogs; variables = g.at.variables; relays = g.at.relays; persistent = g.at.persistent; ops = g.at.ops; ifs = g.at.ifs }
+    new = record { inputs = g.at.inputs; outputs = g.at.outputs; analogs = g.at.analogs; variables = g.at.variables; relays = g.at.relays;
+        persistent = g.at.persistent; ops = g.at.ops; ifs = g.at.ifs }
 
 cycle_grown : (d : Draft) (n : ℕ) → Good (record d { stage = stage.Headed })
     → Grown (record d { stage = stage.Headed }) (Cycle n) (record d { stage = stage.Named; cycle = n })
@@ -255,7 +257,9 @@ analog_grown : (d : Draft) (n : List ℕ) → is_none d.names.variables ≡ true
     → Good (record d { stage = stage.Named })
     → Grown (record d { stage = stage.Named }) (Analog n) (record d { stage = stage.Named; names = record d.names { analog = d.names.analog ++ n ∷ [] } })
 analog_grown d n none new named g = record {
-  more = rw (no_variables d.names.variables d.starts (none_is d.names.variables none), g.at.0, g.at.1) (headed d.cycle _ _ (Analog n) (behind (map Input d.names.inputs) _ _ (Analog n) (behind (map Output d.names.outputs) _ _ (Analog n) (one_more Analog d.names.analog n))));
+  more = rw (no_variables d.names.variables d.starts (none_is d.names.variables none), g.at.0, g.at.1)
+      (headed d.cycle _ _ (Analog n) (behind (map Input d.names.inputs) _ _ (Analog n) (behind (map Output d.names.outputs) _ _ (Analog n)
+      (one_more Analog d.names.analog n))));
   count = omega arith;
   good = record {
     names = record {
@@ -283,7 +287,8 @@ variable_grown d n value new g = record {
   more =
       let last_one = last (variables d.names.variables d.starts) (variables (d.names.variables ++ n ∷ []) (d.starts ++ value ∷ [])) (Variable n value)
       (variables_push d.names.variables d.starts n value g.names.starts) in
-      rw (g.at.0, g.at.1) (headed d.cycle _ _ (Variable n value) (behind (map Input d.names.inputs) _ _ (Variable n value) (behind (map Output d.names.outputs) _ _ (Variable n value) (behind (map Analog d.names.analog) _ _ (Variable n value) last_one))));
+      rw (g.at.0, g.at.1) (headed d.cycle _ _ (Variable n value) (behind (map Input d.names.inputs) _ _ (Variable n value)
+          (behind (map Output d.names.outputs) _ _ (Variable n value) (behind (map Analog d.names.analog) _ _ (Variable n value) last_one))));
   count = omega arith;
   good = record {
     names = record {
@@ -308,7 +313,8 @@ relay_grown : (d : Draft) (n : List ℕ) → (is_none d.names.persistent && nat_
     → list_any (bytes_eq n) d.names.relays ≡ false → Good (record d { stage = stage.Kept })
     → Grown (record d { stage = stage.Kept }) (Relay n) (record d { stage = stage.Kept; names = record d.names { relays = d.names.relays ++ n ∷ [] } })
 relay_grown d n room new g = record {
-  more = rw none (headed d.cycle _ _ (Relay n) (behind (map Input d.names.inputs) _ _ (Relay n) (behind (map Output d.names.outputs) _ _ (Relay n) (behind (map Analog d.names.analog) _ _ (Relay n) (behind (variables d.names.variables d.starts) _ _ (Relay n) (one_more Relay d.names.relays n))))));
+  more = rw none (headed d.cycle _ _ (Relay n) (behind (map Input d.names.inputs) _ _ (Relay n) (behind (map Output d.names.outputs) _ _ (Relay n)
+      (behind (map Analog d.names.analog) _ _ (Relay n) (behind (variables d.names.variables d.starts) _ _ (Relay n) (one_more Relay d.names.relays n))))));
   count = omega arith;
   good = record {
     names = record {

@@ -161,8 +161,10 @@ accepts cycle names program sound =
     (named cycle (lists names.inputs names.outputs names.analog [] [] []) []) [] names.variables [] program.starts relays starts_count sound.variables
     ∙ to_kept cycle (lists names.inputs names.outputs names.analog names.variables [] []) program.starts names.relays names.persistent program.bits
     (Code ∷ ops) sound.analog_variables
-    ∙ run_list (λ n. true) MOST_BITS (λ ns. kept cycle (lists names.inputs names.outputs names.analog names.variables ns []) program.starts) Relay each_relay [] names.relays persistent few_relays (any_name names.relays) sound.relays
-    ∙ run_list (λ n. list_any (bytes_eq n) names.variables) MOST_PERSISTENT (λ ns. kept cycle (lists names.inputs names.outputs names.analog names.variables names.relays ns) program.starts) Persistent each_persistent [] names.persistent bits few_persistent sound.persistent_variables sound.persistent
+    ∙ run_list (λ n. true) MOST_BITS (λ ns. kept cycle (lists names.inputs names.outputs names.analog names.variables ns []) program.starts) Relay each_relay
+        [] names.relays persistent few_relays (any_name names.relays) sound.relays
+    ∙ run_list (λ n. list_any (bytes_eq n) names.variables) MOST_PERSISTENT (λ ns. kept cycle (lists names.inputs names.outputs names.analog names.variables
+        names.relays ns) program.starts) Persistent each_persistent [] names.persistent bits few_persistent sound.persistent_variables sound.persistent
     ∙ run_bits cycle (record names { memories = 0 }) program.starts program.bits program.ops sound.bit_count sound.few_bits range sound.well_formed.nests
   where
     ops : List Line
@@ -195,10 +197,14 @@ accepts cycle names program sound =
     few_persistent : 0 + length names.persistent ≤ MOST_PERSISTENT
     few_persistent = omega (arith, sound.few_persistent, sound.persistent_count)
 
-    each_relay : (ns : List (List ℕ)) (n : List ℕ) → length ns < MOST_BITS → true ≡ true → list_any (bytes_eq n) ns ≡ false → step (kept cycle (lists names.inputs names.outputs names.analog names.variables ns []) program.starts) (Relay n) ≡ Some (kept cycle (lists names.inputs names.outputs names.analog names.variables (ns ++ n ∷ []) []) program.starts)
+    each_relay : (ns : List (List ℕ)) (n : List ℕ) → length ns < MOST_BITS → true ≡ true → list_any (bytes_eq n) ns ≡ false →
+        step (kept cycle (lists names.inputs names.outputs names.analog names.variables ns []) program.starts) (Relay n) ≡ Some
+        (kept cycle (lists names.inputs names.outputs names.analog names.variables (ns ++ n ∷ []) []) program.starts)
     each_relay ns n room ok new = let few : nat_lt (length ns) MOST_BITS ≡ true = grind (arith, nat_tests) in rw (few, new) refl
 
-    each_persistent : (ns : List (List ℕ)) (n : List ℕ) → length ns < MOST_PERSISTENT → list_any (bytes_eq n) names.variables ≡ true → list_any (bytes_eq n) ns ≡ false → step (kept cycle (lists names.inputs names.outputs names.analog names.variables names.relays ns) program.starts) (Persistent n) ≡ Some (kept cycle (lists names.inputs names.outputs names.analog names.variables names.relays (ns ++ n ∷ [])) program.starts)
+    each_persistent : (ns : List (List ℕ)) (n : List ℕ) → length ns < MOST_PERSISTENT → list_any (bytes_eq n) names.variables ≡ true →
+        list_any (bytes_eq n) ns ≡ false → step (kept cycle (lists names.inputs names.outputs names.analog names.variables names.relays ns) program.starts)
+        (Persistent n) ≡ Some (kept cycle (lists names.inputs names.outputs names.analog names.variables names.relays (ns ++ n ∷ [])) program.starts)
     each_persistent ns n room ok new = let few : nat_lt (length ns) MOST_PERSISTENT ≡ true = grind (arith, nat_tests) in rw (ok, few, new) refl
 
     same : sizes_of program ≡ sizes_with program.bits names

@@ -151,7 +151,8 @@ table_says : (a b c : List ℕ) (words : List (List ℕ)) (op : IntOp) → table
 table_says a b c words op h = rw (table_words a b c words, h) refl
 
 -- a table's line, as its words and its values
-table_text : (v : ℕ) (w : NumSource) (values : List ℤ) → line_text (Operation (Tab v w values)) ≡ codes "tab" ++ 32 ∷ (variable_text v ++ 32 ∷ (number_text w ++ 32 ∷ (decimal (length values) ++ values_text values)))
+table_text : (v : ℕ) (w : NumSource) (values : List ℤ) → line_text (Operation (Tab v w values)) ≡ codes "tab" ++ 32 ∷
+    (variable_text v ++ 32 ∷ (number_text w ++ 32 ∷ (decimal (length values) ++ values_text values)))
 table_text v w values = simp append_assoc
 
 module _ (n : Sizes) (small : IsSmall n) where
@@ -167,8 +168,10 @@ module _ (n : Sizes) (small : IsSmall n) where
       let variable : List ℕ = variable_text v ++ 32 ∷ number in
       words_read (Operation (Tab v w values)) (codes "tab" ∷ (variable_text v ∷ (number_text w ∷ (decimal (length values) ∷ map signed_decimal values))))
       (ap (pieces 32) (table_text v w values)
-      ∙ piece_cut (codes "tab") variable tab ∙ ap (λ ws. codes "tab" ∷ ws) (piece_cut (variable_text v) number a.clean ∙ ap (λ ws. variable_text v ∷ ws) (piece_cut (number_text w) count b.clean ∙ ap (λ ws. number_text w ∷ ws) (values_pieces (decimal (length values)) values c.clean all))))
-      (table_says (variable_text v) (number_text w) (decimal (length values)) (map signed_decimal values) (Tab v w values) (rw (a.of, b.of, c.of, values_read values all) refl))
+      ∙ piece_cut (codes "tab") variable tab ∙ ap (λ ws. codes "tab" ∷ ws) (piece_cut (variable_text v) number a.clean ∙ ap (λ ws. variable_text v ∷ ws)
+          (piece_cut (number_text w) count b.clean ∙ ap (λ ws. number_text w ∷ ws) (values_pieces (decimal (length values)) values c.clean all))))
+      (table_says (variable_text v) (number_text w) (decimal (length values)) (map signed_decimal values) (Tab v w values)
+          (rw (a.of, b.of, c.of, values_read values all) refl))
       (ap (lacks 10) (table_text v w values) ∙ spaced (codes "tab") variable tab (spaced (variable_text v) number a.clean (spaced (number_text w) count b.clean
       (list_all-append (λ x. not (x == 10)) (decimal (length values)) (values_text values) ∙ rw (c.clean 10 (omega arith), values_clean values all) refl))))
 

@@ -104,7 +104,8 @@ groups_written cycle names program = sym (
     sizes : List Line
     sizes = BitCount program.bits ∷ (Code ∷ ops)
 
-    in_parts : map Input names.inputs ++ (map Output names.outputs ++ (map Analog names.analog ++ (variables names.variables program.starts ++ (map Relay names.relays ++ (map Persistent names.persistent ++ sizes))))) ≡ name_lines names program.starts ++ sizes
+    in_parts : map Input names.inputs ++ (map Output names.outputs ++ (map Analog names.analog ++ (variables names.variables program.starts ++
+        (map Relay names.relays ++ (map Persistent names.persistent ++ sizes))))) ≡ name_lines names program.starts ++ sizes
     in_parts = simp append_assoc
 
 -- the same with each kind of names by itself
@@ -122,7 +123,8 @@ parts_written cycle names program =
     let word : List ℕ → List (List ℕ) → List ℕ = λ w ns. joined (map (λ n. w ++ n) ns) in
     let rest : List ℕ = joined (map line_text (BitCount program.bits ∷ (Code ∷ []))) ++ (joined (map op_words program.ops) ++ codes "end\n") in
     ap (λ t. joined (map line_text (Magic ∷ (Cycle cycle ∷ []))) ++ t)
-    (grouped (word (codes "input ") names.inputs) (word (codes "output ") names.outputs) (word (codes "analog ") names.analog) (joined (map line_text (variables names.variables program.starts))) (word (codes "relay ") names.relays) (word (codes "persist ") names.persistent) rest
+    (grouped (word (codes "input ") names.inputs) (word (codes "output ") names.outputs) (word (codes "analog ") names.analog)
+        (joined (map line_text (variables names.variables program.starts))) (word (codes "relay ") names.relays) (word (codes "persist ") names.persistent) rest
     ∙ ap (λ t. t ++ rest) (names_written names program.starts))
     ∙ groups_written cycle names program
   where

@@ -70,7 +70,8 @@ record Uses (kind : LeafKind) (ops : List IntOp) : Type 0 where
   hertz : hertz_in ops ≡ option_to_list (rate_of kind)
   serial : has_serial ops ≡ uses_uart kind
 
-none_used : (kind : LeafKind) (ops : List IntOp) → uses_pwm kind ≡ false → option_to_list (rate_of kind) ≡ [] → uses_uart kind ≡ false → any_special ops ≡ false → Uses kind ops
+none_used : (kind : LeafKind) (ops : List IntOp) → uses_pwm kind ≡ false → option_to_list (rate_of kind) ≡ [] → uses_uart kind ≡ false →
+    any_special ops ≡ false → Uses kind ops
 none_used kind ops d h s e = let f = uses_none ops e in record { duty = rw (f.duty, d) refl; hertz = rw (f.hertz, h) refl; serial = rw (f.serial, s) refl }
 
 element_uses : (p : Layout) (kind : LeafKind) (k : ℕ) → Uses kind (element_code p kind k)
@@ -82,7 +83,8 @@ element_uses p (Table dest index as_text values) k = record { duty = refl; hertz
 element_uses p kind k = none_used kind (element_code p kind k) refl refl refl (element_plain p kind k)
 
 leaf_agrees : (l : leaf.Leaf) (ops : List IntOp) → Uses l.kind ops → Agrees (l ∷ []) ops
-leaf_agrees l ops f = record { duty = rw (f.duty, or-false) refl; hertz = f.hertz ∙ sym (append-nil (option_to_list (rate_of l.kind))); serial = rw (f.serial, or-false) refl }
+leaf_agrees l ops f = record { duty = rw (f.duty, or-false) refl; hertz = f.hertz ∙ sym (append-nil (option_to_list (rate_of l.kind)));
+    serial = rw (f.serial, or-false) refl }
 
 pub program_agrees : (p : Layout) (gs : List Rung) → Ready p gs → Agrees (all_leaves gs) (program_code p gs)
 program_agrees p gs ready =

@@ -163,7 +163,8 @@ module _ (p : Layout) (z : Sizes) where
         ),
       )
 
-  table_in : (d : ℕ) (to : List ℕ) (index : Operand) (values : List ℤ) → AllHeld p.variables (to ∷ operand_names index) → nat_le (length values) TABLE_VALUES ≡ true
+  table_in : (d : ℕ) (to : List ℕ) (index : Operand) (values : List ℤ) → AllHeld p.variables (to ∷ operand_names index) → nat_le (length values) TABLE_VALUES ≡
+      true
       → Spans p d z → IsInRange z (Tab (variable_of p to) (number_of p index) values)
   table_in d to index values h e s = (variable_in d to h.0 s, operand_in d index h.1 s, grind (arith, nat_tests, e))
 
@@ -191,7 +192,8 @@ module _ (p : Layout) (z : Sizes) where
       compare_in d how _ _ x y s
   element_in d (Shift name places) k lt h e s = rise_in d k _ lt (moves_in d name places h.variables s) s
   element_in d (Table to index as_text values) k lt h e s =
-      where_in d (Tab (variable_of p to) (number_of p index) values) (table_in d to index values h.variables (first_true (nat_le (length values) TABLE_VALUES) _ e) s) s
+      where_in d (Tab (variable_of p to) (number_of p index) values) (table_in d to index values h.variables (first_true (nat_le (length values) TABLE_VALUES)
+          _ e) s) s
   element_in d (ReadAdc name) k lt h e s =
       where_in d (Adc (variable_of p name) (place_of p.analog name))
       (variable_in d name h.variables.0 s, (let at = place_below p.analog name h.place in let a = s.analogs in omega arith)) s

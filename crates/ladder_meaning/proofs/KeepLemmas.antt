@@ -14,7 +14,8 @@ use Rattle.ladder_meaning.specs.State.{Seen, Now}
 use Rattle.ladder_meaning.proofs.PlaceLemmas.{all_front, all_back}
 
 -- P holds within a cycle, and Q of the elements
-module _ (p : Terms) (r : Seen) (P : Now → Type 0) (Q : leaf.Leaf → Type 0) (keeps : (l : leaf.Leaf) → Q l → (k : ℕ) (s : Now) (power : Bool) → P s → P (element p r l.kind k s power).now) where
+module _ (p : Terms) (r : Seen) (P : Now → Type 0) (Q : leaf.Leaf → Type 0) (keeps : (l : leaf.Leaf) → Q l → (k : ℕ) (s : Now) (power : Bool) → P s →
+    P (element p r l.kind k s power).now) where
   abbrev PartKeeps : Part → Type 0
   PartKeeps a = (k : ℕ) (s : Now) (power : Bool) → P s → P (a.run k s power).now
 

@@ -57,16 +57,19 @@ abbrev on_delay : List Ended
 on_delay = ends ((contact ∷ Timer Ton (codes "T") 30000 ∷ coil (codes "Y") ∷ []) ∷ []) zeros (levels (true ∷ true ∷ true ∷ true ∷ true ∷ []))
 
 abbrev off_delay : List Ended
-off_delay = ends ((contact ∷ Timer Tof (codes "T") 20000 ∷ coil (codes "Y") ∷ []) ∷ []) (record zeros { number = λ name. pos 2 }) (levels (false ∷ true ∷ false ∷ false ∷ false ∷ []))
+off_delay = ends ((contact ∷ Timer Tof (codes "T") 20000 ∷ coil (codes "Y") ∷ []) ∷ []) (record zeros { number = λ name. pos 2 })
+    (levels (false ∷ true ∷ false ∷ false ∷ false ∷ []))
 
 abbrev up : List Ended
-up = ends ((Contacts (codes "Xa") true ∷ move (codes "C") (pos 32767) ∷ []) ∷ (contact ∷ Counter Ctu (codes "C") (pos 5) ∷ coil (codes "Y") ∷ []) ∷ []) zeros (levels (false ∷ true ∷ []))
+up = ends ((Contacts (codes "Xa") true ∷ move (codes "C") (pos 32767) ∷ []) ∷ (contact ∷ Counter Ctu (codes "C") (pos 5) ∷ coil (codes "Y") ∷ []) ∷ []) zeros
+    (levels (false ∷ true ∷ []))
 
 abbrev round : List Ended
 round = ends ((contact ∷ Counter Ctc (codes "C") (pos 2) ∷ []) ∷ []) zeros (levels (true ∷ false ∷ true ∷ false ∷ true ∷ false ∷ true ∷ []))
 
 abbrev arithmetic : List Ended
-arithmetic = ends ((Math Mul (codes "a") (Num (pos 300)) (Num (pos 300)) ∷ []) ∷ (Math Div (codes "b") (Num (negsuc 6)) (Num (pos 2)) ∷ []) ∷ (Math Div (codes "c") (Num (negsuc 32767)) (Num (negsuc 0)) ∷ []) ∷ (Math Div (codes "d") (Num (pos 5)) (Num (pos 0)) ∷ []) ∷ []) zeros (levels (true ∷ []))
+arithmetic = ends ((Math Mul (codes "a") (Num (pos 300)) (Num (pos 300)) ∷ []) ∷ (Math Div (codes "b") (Num (negsuc 6)) (Num (pos 2)) ∷ []) ∷
+    (Math Div (codes "c") (Num (negsuc 32767)) (Num (negsuc 0)) ∷ []) ∷ (Math Div (codes "d") (Num (pos 5)) (Num (pos 0)) ∷ []) ∷ []) zeros (levels (true ∷ []))
 
 abbrev shift : List Ended
 shift = ends ((move (codes "s0") (pos 7) ∷ []) ∷ (contact ∷ Shift (codes "s") 4 ∷ []) ∷ []) zeros (levels (true ∷ false ∷ true ∷ []))
@@ -78,10 +81,12 @@ abbrev table : List Ended
 table = ends ((look_up (pos 1) ∷ []) ∷ (look_up (negsuc 0) ∷ []) ∷ (look_up (pos 3) ∷ []) ∷ []) zeros (levels (true ∷ []))
 
 abbrev received : List Ended
-received = ends ((Recv (codes "a") ∷ coil (codes "Ya") ∷ []) ∷ (Recv (codes "b") ∷ coil (codes "Yb") ∷ []) ∷ []) zeros (record (level false) { received = Some 65 } ∷ [])
+received = ends ((Recv (codes "a") ∷ coil (codes "Ya") ∷ []) ∷ (Recv (codes "b") ∷ coil (codes "Yb") ∷ []) ∷ []) zeros
+    (record (level false) { received = Some 65 } ∷ [])
 
 abbrev sent : Bool → List Ended
-sent busy = ends ((move (codes "n") (pos 300) ∷ Send (codes "n") ∷ coil (codes "Ya") ∷ []) ∷ (Send (codes "n") ∷ coil (codes "Yb") ∷ []) ∷ []) zeros (record (level false) { sending = busy } ∷ [])
+sent busy = ends ((move (codes "n") (pos 300) ∷ Send (codes "n") ∷ coil (codes "Ya") ∷ []) ∷ (Send (codes "n") ∷ coil (codes "Yb") ∷ []) ∷ []) zeros
+    (record (level false) { sending = busy } ∷ [])
 
 abbrev persistent : List Ended
 persistent = ends ((Persist (codes "p") ∷ []) ∷ (contact ∷ move (codes "p") (pos 258) ∷ []) ∷ []) zeros (levels (false ∷ true ∷ false ∷ false ∷ []))

@@ -4,6 +4,7 @@ use Rattle.std.specs.Option.{option_map, option_and_then}
 use Rattle.std.specs.Str.{bytes_eq}
 use Rattle.hex.specs.Hex.{decode_of}
 use Rattle.hex.specs.declared.error.FromHexError.{FromHexError}
+use Rattle.chip_tables.specs.declared.memory.TheConstants.{EEPROM_MOST}
 use Rattle.texts.specs.Lines.{pieces, cut, without_return, is_some_bytes}
 use Rattle.ladder_tree.specs.declared.names.Names.{Names}
 use Rattle.ladder_meaning.specs.declared.reading.Reading.{Reading}
@@ -28,9 +29,9 @@ pub record Draft : Type 0 where
   pub cycles : ℕ
   pub steps : List Step
 
--- how many bytes an EEPROM has
+-- how many bytes an EEPROM has: those of the largest of a chip
 abbrev pub eeprom_size : ℕ
-eeprom_size = 512
+eeprom_size = EEPROM_MOST
 
 -- the bytes, and FFh behind them
 abbrev pub filled : List ℕ → List ℕ

@@ -10,6 +10,7 @@ ghost use Rattle.ladder_trace.specs.Held.{reading, draft};
 use crate::levels::Levels;
 use crate::token::take_tokens;
 use crate::trace::{Step, Steps};
+use chip_tables::EEPROM_MOST;
 use hex::FromHexError;
 use ladder_tree::element::Bytes;
 use ladder_tree::names::Names;
@@ -17,9 +18,6 @@ use ld_base::list::List;
 use std::alloc::{AllocError, Global};
 use texts::digits::digits_to;
 use texts::lines::{split_piece, without_return};
-
-/// How many bytes an EEPROM has.
-const EEPROM_SIZE: usize = 512;
 
 /// How many cycles the steps of a trace may have.
 const MOST_CYCLES: u32 = 100_000;
@@ -176,7 +174,7 @@ fn filled(alloc: Global, given: Vec<u8>) -> Result<Bytes, AllocError>
     ensures { IfOk result (λ bytes. bytes ≡ filled given.items) }
 {
     let mut bytes = given;
-    let rest = vec![in alloc; 0xffu8; EEPROM_SIZE.saturating_sub(bytes.len())]?;
+    let rest = vec![in alloc; 0xffu8; EEPROM_MOST.saturating_sub(bytes.len())]?;
     bytes.extend_from_slice(rest.as_slice())?;
     Ok(List::from_vec(bytes))
 }
@@ -190,7 +188,7 @@ fn eeprom_of(alloc: Global, digits: &[u8]) -> Result<Option<Bytes>, AllocError>
         Err(FromHexError::OutOfMemory) => return Err(AllocError),
         Err(_) => return Ok(None),
     };
-    if bytes.is_empty() || bytes.len() > EEPROM_SIZE {
+    if bytes.is_empty() || bytes.len() > EEPROM_MOST {
         return Ok(None);
     }
     Ok(Some(filled(alloc, bytes)?))

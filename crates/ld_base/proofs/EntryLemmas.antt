@@ -43,7 +43,8 @@ later : (f : Entry) (es : List Entry) (name : List ℕ) (k : ℕ) → bytes_eq f
 later f es name k e h = record {
   within = let lt = h.within in omega (arith, lt);
   held = λ d. ap (λ b. cond b (Some f.bytes.items) (held_in es name)) e ∙ h.held d;
-  replaced = λ d g n same. ap (cond (bytes_eq f.name.items n) (Some f.bytes.items)) (h.replaced d g n same) ∙ apart (bytes_eq f.name.items n) (bytes_eq name n) (Some f.bytes.items) (Some g.bytes.items) (held_in es n) (λ p q. clash (ap (bytes_eq f.name.items) (same_text name n q) ∙ p));
+  replaced = λ d g n same. ap (cond (bytes_eq f.name.items n) (Some f.bytes.items)) (h.replaced d g n same) ∙ apart (bytes_eq f.name.items n) (bytes_eq name n)
+      (Some f.bytes.items) (Some g.bytes.items) (held_in es n) (λ p q. clash (ap (bytes_eq f.name.items) (same_text name n q) ∙ p));
 }
   where
     clash : bytes_eq f.name.items name ≡ true → ⊥
@@ -74,9 +75,13 @@ pub pushed : (es : List Entry) (e : Entry) (n : List ℕ) → held_in es e.name.
 pushed [] e n h = refl
 pushed (f ∷ es) e n h = by (pushed es e n) (bytes_eq f.name.items e.name.items) h refl
   where
-    by : (held_in es e.name.items ≡ None → held_in (es ++ e ∷ []) n ≡ cond (bytes_eq e.name.items n) (Some e.bytes.items) (held_in es n)) → (b : Bool) → cond b (Some f.bytes.items) (held_in es e.name.items) ≡ None → bytes_eq f.name.items e.name.items ≡ b → cond (bytes_eq f.name.items n) (Some f.bytes.items) (held_in (es ++ e ∷ []) n) ≡ cond (bytes_eq e.name.items n) (Some e.bytes.items) (cond (bytes_eq f.name.items n) (Some f.bytes.items) (held_in es n))
+    by : (held_in es e.name.items ≡ None → held_in (es ++ e ∷ []) n ≡ cond (bytes_eq e.name.items n) (Some e.bytes.items) (held_in es n)) → (b : Bool) →
+        cond b (Some f.bytes.items) (held_in es e.name.items) ≡ None → bytes_eq f.name.items e.name.items ≡ b → cond (bytes_eq f.name.items n)
+        (Some f.bytes.items) (held_in (es ++ e ∷ []) n) ≡ cond (bytes_eq e.name.items n) (Some e.bytes.items)
+        (cond (bytes_eq f.name.items n) (Some f.bytes.items) (held_in es n))
     by rec true h t = cc
-    by rec false h t = ap (cond (bytes_eq f.name.items n) (Some f.bytes.items)) (rec h) ∙ apart (bytes_eq f.name.items n) (bytes_eq e.name.items n) (Some f.bytes.items) (Some e.bytes.items) (held_in es n) (λ p q. clash t (ap (bytes_eq f.name.items) (same_text e.name.items n q) ∙ p))
+    by rec false h t = ap (cond (bytes_eq f.name.items n) (Some f.bytes.items)) (rec h) ∙ apart (bytes_eq f.name.items n) (bytes_eq e.name.items n)
+        (Some f.bytes.items) (Some e.bytes.items) (held_in es n) (λ p q. clash t (ap (bytes_eq f.name.items) (same_text e.name.items n q) ∙ p))
       where
         clash : bytes_eq f.name.items e.name.items ≡ false → bytes_eq f.name.items e.name.items ≡ true → ⊥
         clash t u = cc

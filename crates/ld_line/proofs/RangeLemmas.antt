@@ -152,7 +152,8 @@ timer_said : (how : TimerHow) (ts : List (List ℕ)) → IfIs (timer_of how ts) 
 timer_said how [] = tt
 timer_said how (n ∷ []) = tt
 timer_said how (n ∷ d ∷ []) =
-    if_made (λ p. kind.Timer how p.0 p.1) IsNamed (λ x. (0 ≤ x) × (x ≤ most_delay)) IsRead (name n) (natural_in 0 most_delay d) (name_said n) (natural_said 0 most_delay d)
+    if_made (λ p. kind.Timer how p.0 p.1) IsNamed (λ x. (0 ≤ x) × (x ≤ most_delay)) IsRead (name n) (natural_in 0 most_delay d) (name_said n)
+    (natural_said 0 most_delay d)
     (λ p h. and_from (is_name p.0) (nat_le p.1 most_delay) h.0 (at_most p.1 most_delay h.1.1))
 timer_said how (n ∷ d ∷ t ∷ ts) = tt
 
@@ -180,7 +181,8 @@ math_said how [] = tt
 math_said how (n ∷ []) = tt
 math_said how (n ∷ a ∷ []) = tt
 math_said how (n ∷ a ∷ b ∷ []) =
-    if_made (λ p. kind.Math how p.0 p.1.0 p.1.1) IsNamed (λ p. IsReadOperand p.0 × IsReadOperand p.1) IsRead (name n) (operand_pair a b) (name_said n) (pair_said a b)
+    if_made (λ p. kind.Math how p.0 p.1.0 p.1.1) IsNamed (λ p. IsReadOperand p.0 × IsReadOperand p.1) IsRead (name n) (operand_pair a b) (name_said n)
+    (pair_said a b)
     (λ p h. and_from (is_name p.0) (is_read_operand p.1.0 && is_read_operand p.1.1) h.0 (and_from (is_read_operand p.1.0) (is_read_operand p.1.1) h.1.0 h.1.1))
 math_said how (n ∷ a ∷ b ∷ t ∷ ts) = tt
 
@@ -196,15 +198,18 @@ shift_said : (ts : List (List ℕ)) → IfIs (shift ts) IsRead
 shift_said [] = tt
 shift_said (n ∷ []) = tt
 shift_said (n ∷ p ∷ []) =
-    if_made (λ p. kind.Shift p.0 p.1) IsNamed (λ x. (1 ≤ x) × (x ≤ SHIFT_PLACES)) IsRead (name n) (natural_in 1 SHIFT_PLACES p) (name_said n) (natural_said 1 SHIFT_PLACES p)
-    (λ p h. and_from (is_name p.0) (nat_le 1 p.1 && nat_le p.1 SHIFT_PLACES) h.0 (and_from (nat_le 1 p.1) (nat_le p.1 SHIFT_PLACES) (at_most 1 p.1 h.1.0) (at_most p.1 SHIFT_PLACES h.1.1)))
+    if_made (λ p. kind.Shift p.0 p.1) IsNamed (λ x. (1 ≤ x) × (x ≤ SHIFT_PLACES)) IsRead (name n) (natural_in 1 SHIFT_PLACES p) (name_said n)
+    (natural_said 1 SHIFT_PLACES p)
+    (λ p h. and_from (is_name p.0) (nat_le 1 p.1 && nat_le p.1 SHIFT_PLACES) h.0 (and_from (nat_le 1 p.1) (nat_le p.1 SHIFT_PLACES) (at_most 1 p.1 h.1.0)
+    (at_most p.1 SHIFT_PLACES h.1.1)))
 shift_said (n ∷ p ∷ t ∷ ts) = tt
 
 pwm_said : (ts : List (List ℕ)) → IfIs (pwm ts) IsRead
 pwm_said [] = tt
 pwm_said (n ∷ []) = tt
 pwm_said (n ∷ z ∷ []) =
-    if_made (λ p. kind.SetPwm p.0 p.1) IsNamed (λ x. (0 ≤ x) × (x ≤ most_setting)) IsRead (name n) (natural_in 0 most_setting z) (name_said n) (natural_said 0 most_setting z)
+    if_made (λ p. kind.SetPwm p.0 p.1) IsNamed (λ x. (0 ≤ x) × (x ≤ most_setting)) IsRead (name n) (natural_in 0 most_setting z) (name_said n)
+    (natural_said 0 most_setting z)
     (λ p h. and_from (is_name p.0) (nat_le p.1 most_setting) h.0 (at_most p.1 most_setting h.1.1))
 pwm_said (n ∷ z ∷ t ∷ ts) = tt
 
@@ -217,7 +222,8 @@ counted_said dest index count as_text values n o h v = by (length values == coun
         let same : length values ≡ count = grind (arith, nat_tests) in
         let few : length values ≤ TABLE_VALUES = omega arith in
         and_from (is_name dest) ((is_read_operand index && list_all is_integer values) && nat_le (length values) TABLE_VALUES) n
-        (and_from (is_read_operand index && list_all is_integer values) (nat_le (length values) TABLE_VALUES) (and_from (is_read_operand index) (list_all is_integer values) o v) (at_most (length values) TABLE_VALUES few))
+        (and_from (is_read_operand index && list_all is_integer values) (nat_le (length values) TABLE_VALUES)
+        (and_from (is_read_operand index) (list_all is_integer values) o v) (at_most (length values) TABLE_VALUES few))
     by false e = tt
 
 abbrev HeadFits : List ℕ × Operand → Type 0
@@ -295,7 +301,8 @@ IsReadPin p = is_read_pin p ≡ true
 
 pin_line_said : (n pin : List ℕ) → IfIs (pins.pin_line n pin) IsReadPin
 pin_line_said n pin =
-    if_made (λ p. pins_line.Pin (record { name = p.0; pin = p.1 })) IsNamed (λ x. (0 ≤ x) × (x ≤ most_pin)) IsReadPin (name n) (natural_in 0 most_pin pin) (name_said n) (natural_said 0 most_pin pin)
+    if_made (λ p. pins_line.Pin (record { name = p.0; pin = p.1 })) IsNamed (λ x. (0 ≤ x) × (x ≤ most_pin)) IsReadPin (name n) (natural_in 0 most_pin pin)
+    (name_said n) (natural_said 0 most_pin pin)
     (λ p h. and_from (is_name p.0) (nat_le p.1 most_pin) h.0 (at_most p.1 most_pin h.1.1))
 
 pins_said : (ts : List (List ℕ)) → IfIs (pins.pin_of_line ts) IsReadPin
@@ -316,7 +323,8 @@ keyed_said : (line : ℕ → HeaderLine) (number : Option (List ℕ)) (other : S
 keyed_said line None other fits h = h
 keyed_said line (Some t) other fits h =
     if_map line IsReadSetting (natural_in 0 most_setting t)
-    (if_weak (λ n. (0 ≤ n) × (n ≤ most_setting)) (λ n. IsReadSetting (line n)) (natural_in 0 most_setting t) (λ n h. fits n h.1) (natural_said 0 most_setting t))
+    (if_weak (λ n. (0 ≤ n) × (n ≤ most_setting)) (λ n. IsReadSetting (line n)) (natural_in 0 most_setting t) (λ n h. fits n h.1)
+    (natural_said 0 most_setting t))
 
 setting_said : (t : List ℕ) → IfIs (setting t) IsReadSetting
 unfolding setting
@@ -327,7 +335,8 @@ setting_said t =
     let fits : (n : ℕ) → n ≤ most_setting → nat_le n most_setting ≡ true = λ n h. at_most n most_setting h in
     let baud_said : IfIs baud IsReadSetting = keyed_said header.Baud (behind_word (codes "BAUD=") t) Bad fits tt in
     let crystal_said : IfIs crystal IsReadSetting = keyed_said header.Crystal (behind_word (codes "CRYSTAL=") t) baud fits baud_said in
-    if_test IsReadSetting (bytes_eq t (codes "PROGRAM")) (Is header.Program) cycle refl (keyed_said header.Cycle (behind_word (codes "CYCLE=") t) crystal fits crystal_said)
+    if_test IsReadSetting (bytes_eq t (codes "PROGRAM")) (Is header.Program) cycle refl (keyed_said header.Cycle (behind_word (codes "CYCLE=") t) crystal fits
+    crystal_said)
 
 tokens_said : (ts : List (List ℕ)) → IfIs (tokens_say ts) IsReadSetting
 tokens_said [] = tt
@@ -346,7 +355,8 @@ micro_said (Some text) other h = refl
 header_said : (line : List ℕ) → IfIs (header_of line) IsReadSetting
 header_said line =
     let other = compiled_or (behind_word (codes "COMPILED=") (trimmed line)) (tokens_say (tokens line)) in
-    micro_said (behind_word (codes "MICRO=") (trimmed line)) other (compiled_said (behind_word (codes "COMPILED=") (trimmed line)) (tokens_say (tokens line)) (tokens_said (tokens line)))
+    micro_said (behind_word (codes "MICRO=") (trimmed line)) other (compiled_said (behind_word (codes "COMPILED=") (trimmed line)) (tokens_say (tokens line))
+    (tokens_said (tokens line)))
 
 pub settings_in_range : (line : List ℕ) (h : HeaderLine) → header_of line ≡ Is h → is_read_setting h ≡ true
 settings_in_range line h e = said_so IsReadSetting (header_of line) h e (header_said line)

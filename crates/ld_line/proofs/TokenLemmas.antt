@@ -34,7 +34,8 @@ split [] = refl
 split (x ∷ xs) = by (is_blank x) (position_or_len is_blank xs) (split xs)
   where
     by : (b : Bool) (w : ℕ) → between_blanks xs ≡ take w xs ∷ later (drop w xs)
-        → (if b then [] ∷ between_blanks xs else onto x (between_blanks xs)) ≡ take (cond (not b) (1 + w) 0) (x ∷ xs) ∷ later (drop (cond (not b) (1 + w) 0) (x ∷ xs))
+        → (if b then [] ∷ between_blanks xs else onto x (between_blanks xs)) ≡ take (cond (not b) (1 + w) 0) (x ∷ xs) ∷ later
+        (drop (cond (not b) (1 + w) 0) (x ∷ xs))
     by true w h = refl
     by false w h = rw (one_more w) (ap (onto x) h)
 

@@ -54,7 +54,8 @@ clean_append (l ∷ ls) ms h g = (h.0, clean_append ls ms h.1 g)
 pub text_clean : (text : List ℕ) → AllClean (lines_of text)
 text_clean text =
     let h = pieces_lines text in
-    clean_append (ended (pieces 10 text)) (open_line (last_of (pieces 10 text))) (ended_clean (pieces 10 text) h) (open_clean (last_of (pieces 10 text)) (last_line (pieces 10 text) h))
+    clean_append (ended (pieces 10 text)) (open_line (last_of (pieces 10 text))) (ended_clean (pieces 10 text) h)
+    (open_clean (last_of (pieces 10 text)) (last_line (pieces 10 text) h))
 
 -- lines that are joined are the lines of the text
 

@@ -78,14 +78,16 @@ bare_comment : (n : ℕ) → ElementSaid (kind.Comment []) (replicate n 32 ++ co
 bare_comment n =
     let line = replicate n 32 ++ codes "COMMENT" in
     said_by_word line (codes "COMMENT") [] word.Comment (kind.Comment []) (tokens_printed n (codes "COMMENT") [] comment_word tt) refl refl refl
-    (ap (λ l. Is (kind.Comment (drop 8 (behind is_blank l)))) (before_same is_return line (ends_some is_return (replicate n 32) (codes "COMMENT") (omega arith) refl))
+    (ap (λ l. Is (kind.Comment (drop 8 (behind is_blank l)))) (before_same is_return line (ends_some is_return (replicate n 32) (codes "COMMENT") (omega arith)
+    refl))
     ∙ ap (λ l. Is (kind.Comment (drop 8 l))) (behind_indent n (codes "COMMENT")))
 
 some_comment : (n : ℕ) (text : List ℕ) → 0 < length text → ends is_return text ≡ true
     → ElementSaid (kind.Comment text) (replicate n 32 ++ (codes "COMMENT" ++ 32 ∷ text))
 some_comment n text some e =
     let line = replicate n 32 ++ (codes "COMMENT" ++ 32 ∷ text) in
-    let whole : without_returns line ≡ line = before_same is_return line (ends_some is_return (replicate n 32) (codes "COMMENT" ++ 32 ∷ text) (omega arith) (ends_some is_return (codes "COMMENT ") text some e)) in
+    let whole : without_returns line ≡ line = before_same is_return line (ends_some is_return (replicate n 32) (codes "COMMENT" ++ 32 ∷ text) (omega arith)
+    (ends_some is_return (codes "COMMENT ") text some e)) in
     said_by_word line (codes "COMMENT") (runs text) word.Comment (kind.Comment text)
     (ap runs whole ∙ runs_indent n (codes "COMMENT" ++ 32 ∷ text) ∙ runs_word (codes "COMMENT") text comment_word) refl refl refl
     (ap (λ l. Is (kind.Comment (drop 8 (behind is_blank l)))) whole
@@ -101,7 +103,8 @@ plain_said n k p c =
     let line = replicate n 32 ++ words.element_words k in
     let w = kind_begins k p.read in
     said_by_word line (spelling (word_for k)) (words.tokens_behind k) (word_for k) k
-    (tokens_printed n (spelling (word_for k)) (words.tokens_behind k) w.is_token (short_tokens (words.tokens_behind k) (kind_short k p.read c))) w.no_form w.known w.built (kind_read k p.read c line)
+    (tokens_printed n (spelling (word_for k)) (words.tokens_behind k) w.is_token (short_tokens (words.tokens_behind k) (kind_short k p.read c))) w.no_form
+    w.known w.built (kind_read k p.read c line)
 
 -- the line of an element behind blanks
 pub element_said : (n : ℕ) (k : LeafKind) → IsPrintable k → ElementSaid k (replicate n 32 ++ words.element_words k)
@@ -120,7 +123,14 @@ comment_fits (c ∷ cs) f = record {
 -- four tokens behind a word
 few_tokens : (k : LeafKind) → length (words.tokens_behind k) ≤ 4 → is_read_kind k ≡ true → is_comment k ≡ false → length (words.element_words k) ≤ LINE_BYTES
 few_tokens k few h c =
-    omega (arith, length-append (spelling (word_for k)) (words.behind_spaces (words.tokens_behind k)), (kind_begins k h).short, short_behind (words.tokens_behind k) (kind_short k h c), few)
+    omega (
+      arith,
+      length-append (spelling (word_for k)) (words.behind_spaces (words.tokens_behind k)),
+      (kind_begins k h).short,
+      short_behind
+          (words.tokens_behind k) (kind_short k h c),
+      few,
+    )
 
 four_flags : (name : List ℕ) (m : CoilMode) → length (words.tokens_behind (kind.Coil name m)) ≤ 4
 four_flags name mode.Plain = omega arith
@@ -140,7 +150,11 @@ plain_fits : (k : LeafKind) → IsPrintable k → is_comment k ≡ false → Fit
 plain_fits k p c =
     let w = kind_begins k p.read in
     let ts = short_tokens (words.tokens_behind k) (kind_short k p.read c) in
-    record { short = short_enough k p c; clean = clean_both (spelling (word_for k)) (words.behind_spaces (words.tokens_behind k)) (clean_token (spelling (word_for k)) w.is_token.plain) (clean_behind (words.tokens_behind k) ts) }
+    record {
+      short = short_enough k p c;
+      clean = clean_both (spelling (word_for k)) (words.behind_spaces (words.tokens_behind k))
+          (clean_token (spelling (word_for k)) w.is_token.plain) (clean_behind (words.tokens_behind k) ts);
+    }
 
 pub element_fits : (k : LeafKind) → IsPrintable k → Fits (words.element_words k)
 element_fits (kind.Comment text) p = comment_fits text p.text

@@ -129,7 +129,11 @@ stays_behind [] = record { ends = λ h. h; clean = λ h. h; short = omega arith 
 stays_behind (b ∷ bs) = by (is_blank b) (stays_behind bs)
   where
     by : (x : Bool) → Stays bs (behind is_blank bs) → Stays (b ∷ bs) (if x then behind is_blank bs else b ∷ bs)
-    by true s = record { ends = λ h. s.ends (ends_rest is_return b bs h); clean = λ h. s.clean (and_parts (not_feed b) (list_all not_feed bs) h).1; short = omega (arith, s.short) }
+    by true s = record {
+      ends = λ h. s.ends (ends_rest is_return b bs h);
+      clean = λ h. s.clean (and_parts (not_feed b) (list_all not_feed bs) h).1;
+      short = omega (arith, s.short);
+    }
     by false s = record { ends = λ h. h; clean = λ h. h; short = omega arith }
 
 clean_reverse : (xs : List ℕ) → list_all not_feed xs ≡ true → list_all not_feed (reverse xs) ≡ true
@@ -274,7 +278,8 @@ text_fits word.Persist ts bytes f r = named_text kind.Persist ts (λ n. tt)
 text_fits word.FormattedString ts bytes f r = tt
 text_fits word.PiecewiseLinear ts bytes f r = tt
 
-printable : (number : ℕ) (bytes : List ℕ) (l : leaf.Leaf) → length bytes ≤ LINE_BYTES → IsLine bytes → said_in site.Inside number bytes ≡ Is (Body (mark.Element l))
+printable : (number : ℕ) (bytes : List ℕ) (l : leaf.Leaf) → length bytes ≤ LINE_BYTES → IsLine bytes → said_in site.Inside number bytes ≡ Is
+    (Body (mark.Element l))
     → IsPrintable l.kind
 printable number bytes l short clean h =
     let w = element_worded number bytes l h in
@@ -384,13 +389,15 @@ record Seen (p : Place) (bytes : List ℕ) (f : LineForm) : Type 0 where
 
 seen : (p : Place) (bytes : List ℕ) (size : ℕ) (f : LineForm) → is_first p.site ≡ false → Passes p bytes size (Is f) → Seen p bytes f
 seen p bytes size f e all =
-    let k = or_parts (begins_unbuilt p.target (tokens bytes)) (names_unbuilt (Is f)) (ap (λ b. not b && (begins_unbuilt p.target (tokens bytes) || names_unbuilt (Is f))) (sym e) ∙ all.built) in
+    let k = or_parts (begins_unbuilt p.target (tokens bytes)) (names_unbuilt (Is f))
+    (ap (λ b. not b && (begins_unbuilt p.target (tokens bytes) || names_unbuilt (Is f))) (sym e) ∙ all.built) in
     record { short = not_over LINE_BYTES (length bytes) all.short; free = k.0; built = k.1 }
 
 setting_fits : (p : Place) (number : ℕ) (bytes : List ℕ) (size : ℕ) (h : HeaderLine) → p.site ≡ site.Header → said_in p.site number bytes ≡ Is (Header h)
     → Passes p bytes size (Is (Header h)) → FormFits (Header h)
 setting_fits p number bytes size h e said all =
-    by h (settings_in_range bytes h (header_says (tokens bytes) (header_of bytes) h (ap (λ x. said_in x number bytes) (sym e) ∙ said))) (seen p bytes size (Header h) (ap is_first e) all).built
+    by h (settings_in_range bytes h (header_says (tokens bytes) (header_of bytes) h (ap (λ x. said_in x number bytes) (sym e) ∙ said)))
+    (seen p bytes size (Header h) (ap is_first e) all).built
   where
     by : (h : HeaderLine) → is_read_setting h ≡ true → names_unbuilt (Is (Header h)) ≡ false → FormFits (Header h)
     by (header.Micro (Some t)) r b = not-false (is_target_built t) b
@@ -410,7 +417,8 @@ form_fits p number bytes size (Header h) a said all clean = setting_fits p numbe
 form_fits p number bytes size (Pins pins.End) a said all clean = tt
 form_fits p number bytes size (Pins (pins.Pin q)) a said all clean =
     let e = at_pins p.site (pins.Pin q) a in
-    pin_fits p.target bytes q (seen p bytes size (Pins (pins.Pin q)) (ap is_first e) all).free (pins_say (tokens bytes) (pin_of_line (tokens bytes)) (pins.Pin q) (ap (λ x. said_in x number bytes) (sym e) ∙ said))
+    pin_fits p.target bytes q (seen p bytes size (Pins (pins.Pin q)) (ap is_first e) all).free (pins_say (tokens bytes) (pin_of_line (tokens bytes))
+    (pins.Pin q) (ap (λ x. said_in x number bytes) (sym e) ∙ said))
 form_fits p number bytes size (Body mark.Rung) a said all clean = tt
 form_fits p number bytes size (Body (mark.Open c)) a said all clean = tt
 form_fits p number bytes size (Body mark.End) a said all clean = tt
@@ -423,7 +431,13 @@ fine_line : (p : Place) (number : ℕ) (l : Line) (f : LineForm) → fault_at p 
 fine_line p number l f h said clean =
     let all = passes p number l.bytes (size_of l) (Is f) (ap (fault_of p number l.bytes (size_of l)) (sym said) ∙ h) in
     let a = allowed p.site number l.bytes f said in
-    record { allowed = a; shallow = all.shallow; few = (or_parts (is_one_too_many p (Is f)) _ all.few).0; fits = form_fits p number l.bytes (size_of l) f a said all clean }
+    record {
+      allowed = a;
+      shallow = all.shallow;
+      few = (or_parts (is_one_too_many p (Is f)) _ all.few).0;
+      fits = form_fits p number l.bytes (size_of l) f a
+          said all clean;
+    }
 
 fine_unsized : (p : Place) (f : LineForm) → Fine p f → Fine (unsized p) f
 fine_unsized p Blank h = record { allowed = h.allowed; shallow = refl; few = refl; fits = h.fits }
@@ -436,7 +450,8 @@ fine_unsized p (Body (mark.Open c)) h = record { allowed = h.allowed; shallow = 
 fine_unsized p (Body mark.End) h = record { allowed = h.allowed; shallow = refl; few = refl; fits = h.fits }
 fine_unsized p (Body (mark.Element l)) h = record { allowed = h.allowed; shallow = refl; few = h.few; fits = h.fits }
 
-end_unsized : (p : Place) (b : Bool) → unsized (if b then record p { site = site.Between } else record p { depth = p.depth - 1 }) ≡ (if b then record (unsized p) { site = site.Between } else record (unsized p) { depth = p.depth - 1 })
+end_unsized : (p : Place) (b : Bool) → unsized (if b then record p { site = site.Between } else record p { depth = p.depth - 1 }) ≡
+    (if b then record (unsized p) { site = site.Between } else record (unsized p) { depth = p.depth - 1 })
 end_unsized p true = refl
 end_unsized p false = refl
 
@@ -490,7 +505,8 @@ pub fine_lines : (ls : List Line) (p : Place) (n : ℕ) (fs : List LineForm) →
 fine_lines [] p n [] c h said e = e
 fine_lines [] p n (f ∷ fs) c h said e = absurd cc
 fine_lines (l ∷ ls) p n fs c h said e =
-    by (said_at p n l) refl (λ gs k. fine_lines ls (place.behind p n l) (n + 1) gs c.1 (none_both (fault_at p n l) (first_fault (place.behind p n l) (n + 1) ls) h).1 k e)
+    by (said_at p n l) refl (λ gs k. fine_lines ls (place.behind p n l) (n + 1) gs c.1
+    (none_both (fault_at p n l) (first_fault (place.behind p n l) (n + 1) ls) h).1 k e)
   where
     none : (fault_at p n l ≡ None) × (first_fault (place.behind p n l) (n + 1) ls ≡ None)
     none = none_both (fault_at p n l) (first_fault (place.behind p n l) (n + 1) ls) h
@@ -503,5 +519,6 @@ fine_lines (l ∷ ls) p n fs c h said e =
     by Bad g rest = let no = ap is_bad (sym g) ∙ all.good in absurd cc
     by Range g rest = let no = ap is_out_of_range (sym g) ∙ all.range in absurd cc
     by (Is f) g rest =
-        one_more p f (said_by (place.behind p n l) (n + 1) ls) fs (ap (λ x. unblanked x (said_by (place.behind p n l) (n + 1) ls)) (sym g) ∙ said) (fine_line p n l f none.0 g c.0)
+        one_more p f (said_by (place.behind p n l) (n + 1) ls) fs (ap (λ x. unblanked x (said_by (place.behind p n l) (n + 1) ls)) (sym g) ∙ said)
+        (fine_line p n l f none.0 g c.0)
         (λ gs k. subst (λ x. AllFine (unsized x) gs) (ap (behind_said p (size_of l)) g) (rest gs k))

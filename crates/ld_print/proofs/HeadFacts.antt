@@ -69,16 +69,65 @@ pins_led (l ∷ ls) s rest h =
     below n h = grind (arith, nat_tests)
 
 item_led : (i : Item) (s : Settings) (rest : List LineForm) → Led site.Header s (spelled_item i ++ rest) → Led site.Header (with_item s i) rest
-item_led (Chip t) s rest h = record { fit = record { target = h.rest.0.fits; cycle = h.fit.cycle; crystal = h.fit.crystal; baud = h.fit.baud; pins = h.fit.pins; few = h.fit.few }; rest = h.rest.1 }
-item_led (Cycle n) s rest h = record { fit = record { target = h.fit.target; cycle = h.rest.0.fits; crystal = h.fit.crystal; baud = h.fit.baud; pins = h.fit.pins; few = h.fit.few }; rest = h.rest.1 }
-item_led (Crystal n) s rest h = record { fit = record { target = h.fit.target; cycle = h.fit.cycle; crystal = h.rest.0.fits; baud = h.fit.baud; pins = h.fit.pins; few = h.fit.few }; rest = h.rest.1 }
-item_led (Baud n) s rest h = record { fit = record { target = h.fit.target; cycle = h.fit.cycle; crystal = h.fit.crystal; baud = h.rest.0.fits; pins = h.fit.pins; few = h.fit.few }; rest = h.rest.1 }
+item_led (Chip t) s rest h = record {
+  fit = record {
+    target = h.rest.0.fits;
+    cycle = h.fit.cycle;
+    crystal = h.fit.crystal;
+    baud = h.fit.baud;
+    pins = h.fit.pins;
+    few = h.fit.few;
+  };
+  rest = h.rest.1;
+}
+item_led (Cycle n) s rest h = record {
+  fit = record {
+    target = h.fit.target;
+    cycle = h.rest.0.fits;
+    crystal = h.fit.crystal;
+    baud = h.fit.baud;
+    pins = h.fit.pins;
+    few = h.fit.few;
+  };
+  rest = h.rest.1;
+}
+item_led (Crystal n) s rest h = record {
+  fit = record {
+    target = h.fit.target;
+    cycle = h.fit.cycle;
+    crystal = h.rest.0.fits;
+    baud = h.fit.baud;
+    pins = h.fit.pins;
+    few = h.fit.few;
+  };
+  rest = h.rest.1;
+}
+item_led (Baud n) s rest h = record {
+  fit = record {
+    target = h.fit.target;
+    cycle = h.fit.cycle;
+    crystal = h.fit.crystal;
+    baud = h.rest.0.fits;
+    pins = h.fit.pins;
+    few = h.fit.few;
+  };
+  rest = h.rest.1;
+}
 item_led Compiled s rest h = record { fit = h.fit; rest = h.rest.1 }
 item_led (PinSection ls) s rest h =
-    let inner = pins_led ls s (Pins pins.End ∷ rest) (record { fit = h.fit; rest = subst (AllFine (place_in site.Pins s.target (length s.pins))) (append_assoc (pin_forms ls) (Pins pins.End ∷ []) rest) h.rest.1 }) in
+    let inner = pins_led ls s (Pins pins.End ∷ rest) (record {
+      fit = h.fit;
+      rest = subst (AllFine (place_in site.Pins s.target (length s.pins)))
+          (append_assoc (pin_forms ls) (Pins pins.End ∷ []) rest) h.rest.1;
+    }) in
     record { fit = inner.fit; rest = inner.rest.1 }
 
 pub items_led : (is : List Item) (s : Settings) (rest : List LineForm) → Led site.Header s (spelled_items is ++ rest) → Led site.Header (with_items s is) rest
 items_led [] s rest h = h
 items_led (i ∷ is) s rest h =
-    items_led is (with_item s i) rest (item_led i s (spelled_items is ++ rest) (record { fit = h.fit; rest = subst (AllFine (place_in site.Header s.target (length s.pins))) (append_assoc (spelled_item i) (spelled_items is) rest) h.rest }))
+    items_led is (with_item s i) rest (item_led i s (spelled_items is ++ rest)
+    (record {
+      fit = h.fit;
+      rest = subst (AllFine (place_in site.Header s.target (length s.pins))) (append_assoc (spelled_item i) (spelled_items is) rest)
+          h.rest;
+    }))

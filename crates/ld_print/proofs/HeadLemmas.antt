@@ -65,17 +65,21 @@ key_short n key k h = omega (arith, length-append key (decimal n), length-decima
 pub cycle_said : (n : ℕ) → n ≤ most_setting → HeaderSaid (codes "CYCLE=" ++ decimal n) (Header (header.Cycle n))
 unfolding setting
 cycle_said n h =
-    token_said (codes "CYCLE=" ++ decimal n) (header.Cycle n) (record { some = omega arith; plain = (decimal_token n (omega arith)).plain }) (key_short n (codes "CYCLE=") (omega arith) h) refl refl (ap (said_map header.Cycle) (natural_read 0 most_setting n (omega arith) h (omega arith))) refl
+    token_said (codes "CYCLE=" ++ decimal n) (header.Cycle n) (record { some = omega arith; plain = (decimal_token n (omega arith)).plain })
+    (key_short n (codes "CYCLE=") (omega arith) h) refl refl (ap (said_map header.Cycle) (natural_read 0 most_setting n (omega arith) h (omega arith))) refl
 
 pub crystal_said : (n : ℕ) → n ≤ most_setting → HeaderSaid (codes "CRYSTAL=" ++ decimal n) (Header (header.Crystal n))
 unfolding setting
 crystal_said n h =
-    token_said (codes "CRYSTAL=" ++ decimal n) (header.Crystal n) (record { some = omega arith; plain = (decimal_token n (omega arith)).plain }) (key_short n (codes "CRYSTAL=") (omega arith) h) refl refl (ap (said_map header.Crystal) (natural_read 0 most_setting n (omega arith) h (omega arith))) refl
+    token_said (codes "CRYSTAL=" ++ decimal n) (header.Crystal n) (record { some = omega arith; plain = (decimal_token n (omega arith)).plain })
+    (key_short n (codes "CRYSTAL=") (omega arith) h) refl refl (ap (said_map header.Crystal) (natural_read 0 most_setting n (omega arith) h (omega arith)))
+    refl
 
 pub baud_said : (n : ℕ) → n ≤ most_setting → HeaderSaid (codes "BAUD=" ++ decimal n) (Header (header.Baud n))
 unfolding setting
 baud_said n h =
-    token_said (codes "BAUD=" ++ decimal n) (header.Baud n) (record { some = omega arith; plain = (decimal_token n (omega arith)).plain }) (key_short n (codes "BAUD=") (omega arith) h) refl refl (ap (said_map header.Baud) (natural_read 0 most_setting n (omega arith) h (omega arith))) refl
+    token_said (codes "BAUD=" ++ decimal n) (header.Baud n) (record { some = omega arith; plain = (decimal_token n (omega arith)).plain })
+    (key_short n (codes "BAUD=") (omega arith) h) refl refl (ap (said_map header.Baud) (natural_read 0 most_setting n (omega arith) h (omega arith))) refl
 
 -- a pin line that is read again where it is printed
 pub record PinFits (p : pin.PinLine) : Type 0 where
@@ -101,13 +105,27 @@ pin_said p f =
     let d = decimal_token p.pin (omega (arith, f.number)) in
     let ts : tokens (print.pin_line p) ≡ p.name ∷ codes "at" ∷ decimal p.pin ∷ [] =
     ap tokens (pin_is p) ∙ tokens_printed 4 p.name (codes "at" ∷ decimal p.pin ∷ []) n.token (at_token, (d, tt)) in
-    let short : length (print.pin_line p) ≤ 100 = omega (arith, length-append p.name (codes " at " ++ decimal p.pin), length-append (codes " at ") (decimal p.pin), n.short, length-decimal-le 3 p.pin (omega arith) (omega (arith, f.number)) (omega (arith, f.number))) in
+    let short : length (print.pin_line p) ≤ 100 = omega (
+      arith,
+      length-append p.name (codes " at " ++ decimal p.pin),
+      length-append (codes " at ")
+          (decimal p.pin),
+      n.short,
+      length-decimal-le 3 p.pin (omega arith) (omega (arith, f.number)) (omega (arith, f.number)),
+    ) in
     record {
       said = λ number.
           ap (λ ts. unless_blank ts (said_map Pins (pin_of_line ts))) ts
-          ∙ ap (λ s. said_map Pins (said_map (λ p. pins.Pin (record { name = p.0; pin = p.1 })) (both s (natural_in 0 most_pin (decimal p.pin))))) (name_read p.name f.named)
-          ∙ ap (λ s. said_map Pins (said_map (λ p. pins.Pin (record { name = p.0; pin = p.1 })) (both (Is p.name) s))) (natural_read 0 most_pin p.pin (omega arith) f.number (omega (arith, f.number)));
+          ∙ ap (λ s. said_map Pins (said_map (λ p. pins.Pin (record { name = p.0; pin = p.1 })) (both s (natural_in 0 most_pin (decimal p.pin)))))
+          (name_read p.name f.named)
+          ∙ ap (λ s. said_map Pins (said_map (λ p. pins.Pin (record { name = p.0; pin = p.1 })) (both (Is p.name) s)))
+          (natural_read 0 most_pin p.pin (omega arith) f.number (omega (arith, f.number)));
       free = ap (begins_unbuilt (Some Interp)) ts ∙ f.free;
       short = short;
-      clean = record { short = omega (arith, short); clean = clean_both (codes "    ") (p.name ++ (codes " at " ++ decimal p.pin)) refl (clean_both p.name (codes " at " ++ decimal p.pin) (clean_token p.name n.token.plain) (clean_both (codes " at ") (decimal p.pin) refl (clean_token (decimal p.pin) d.plain))) };
+      clean = record {
+        short = omega (arith, short);
+        clean = clean_both (codes "    ") (p.name ++ (codes " at " ++ decimal p.pin)) refl
+            (clean_both p.name (codes " at " ++ decimal p.pin) (clean_token p.name n.token.plain) (clean_both (codes " at ") (decimal p.pin) refl
+            (clean_token (decimal p.pin) d.plain)));
+      };
     }

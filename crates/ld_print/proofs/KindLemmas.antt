@@ -168,8 +168,16 @@ kind_short (kind.Shift name places) h c =
     let f = and_parts (nat_le 1 places) (nat_le places SHIFT_PLACES) g.1 in
     (name_short name g.0, (decimal_short places (number_short places SHIFT_PLACES (omega arith) f.1), tt))
 kind_short (kind.Table dest index as_text values) h c =
-    let t = fits_table dest index as_text values h in
-    (name_short dest t.is_named, (operand_short index t.is_read, (decimal_short (length values) (omega (arith, t.few)), (flag_short as_text, integers_short values t.are_integers))))
+    let t = fits_table dest index as_text values h in (
+      name_short dest t.is_named,
+      (
+        operand_short index t.is_read,
+        (
+          decimal_short (length values) (omega (arith, t.few)),
+          (flag_short as_text, integers_short values t.are_integers),
+        ),
+      ),
+    )
 kind_short (kind.ReadAdc name) h c = (name_short name h, tt)
 kind_short (kind.SetPwm name hz) h c =
     let g = and_parts (is_name name) (nat_le hz most_setting) h in
@@ -234,12 +242,14 @@ shift_read n places h =
     made_said (λ p. kind.Shift p.0 p.1) (name_read n g.0) (natural_read 1 SHIFT_PLACES places (at_most 1 places f.0) few (omega (arith, few)))
 
 table_read : (dest : List ℕ) (index : Operand) (as_text : Bool) (values : List ℤ) → FitsTable dest index values
-    → elements.table (dest ∷ words.operand_text index ∷ decimal (length values) ∷ words.flag as_text ∷ words.integers values) ≡ Is (kind.Table dest index as_text values)
+    → elements.table (dest ∷ words.operand_text index ∷ decimal (length values) ∷ words.flag as_text ∷ words.integers values) ≡ Is
+    (kind.Table dest index as_text values)
 table_read dest index as_text values t =
     let same : (length values == length values) ≡ true = grind (arith, nat_tests) in
     ap (said_then (λ p. elements.counted p.0.0 p.0.1 p.1.0.0 p.1.0.1 p.1.1))
     (both_said (both_said (name_read dest t.is_named) (operand_read index t.is_read))
-    (both_said (both_said (natural_read 0 TABLE_VALUES (length values) (omega arith) t.few (omega (arith, t.few))) (flag_read as_text)) (integers_read values t.are_integers)))
+    (both_said (both_said (natural_read 0 TABLE_VALUES (length values) (omega arith) t.few (omega (arith, t.few))) (flag_read as_text))
+    (integers_read values t.are_integers)))
     ∙ ap (λ b. if b then Is (kind.Table dest index as_text values) else Bad) same
 
 pwm_read : (n : List ℕ) (hz : ℕ) → is_read_kind (kind.SetPwm n hz) ≡ true → elements.pwm (n ∷ decimal hz ∷ []) ≡ Is (kind.SetPwm n hz)
@@ -262,7 +272,8 @@ kind_read (kind.Comment text) h c line = absurd cc
 kind_read (kind.Timer how name delay) h c line = timer_by_word how (name ∷ decimal delay ∷ []) line ∙ timer_read how name delay h
 kind_read (kind.Counter how name max) h c line =
     let g = and_parts (is_name name) (is_integer max) h in
-    counter_by_word how (words.tokens_behind (kind.Counter how name max)) line ∙ made_said (λ p. kind.Counter how p.0 p.1) (name_read name g.0) (integer_read max g.1)
+    counter_by_word how (words.tokens_behind (kind.Counter how name max)) line ∙ made_said (λ p. kind.Counter how p.0 p.1) (name_read name g.0)
+    (integer_read max g.1)
 kind_read (kind.Reset name) h c line = ap (said_map kind.Reset) (name_read name h)
 kind_read (kind.Move dest src) h c line =
     let g = and_parts (is_name dest) (is_read_operand src) h in

@@ -55,5 +55,6 @@ known text p r =
       pins = subst AllPinsFit pins led.fit.pins;
       few = subst (λ ps. length ps ≤ PIN_LINES) pins led.fit.few;
       body =
-          subst (λ t. AllFine (place_in site.Between t (length p.pins)) (map Body (spelled p.rungs))) r.project.target (subst (λ ps. AllFine (place_in site.Between s.target (length ps)) (map Body (spelled p.rungs))) pins led.rest.1);
+          subst (λ t. AllFine (place_in site.Between t (length p.pins)) (map Body (spelled p.rungs))) r.project.target
+          (subst (λ ps. AllFine (place_in site.Between s.target (length ps)) (map Body (spelled p.rungs))) pins led.rest.1);
     }

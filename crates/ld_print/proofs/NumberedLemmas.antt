@@ -61,7 +61,8 @@ nodes_renumbered (x ∷ xs) h n =
     record {
       nodes = a.node ∷ b.nodes;
       spelled =
-          ap (λ l. l ++ spelled_nodes b.nodes) a.spelled ∙ ap (λ l. numbered n (spelled_node x) ++ l) b.spelled ∙ sym (numbered-append n (spelled_node x) (spelled_nodes xs));
+          ap (λ l. l ++ spelled_nodes b.nodes) a.spelled ∙ ap (λ l. numbered n (spelled_node x) ++ l) b.spelled ∙ sym
+          (numbered-append n (spelled_node x) (spelled_nodes xs));
       same = ap (λ y. y ∷ map unlined b.nodes) a.same ∙ ap (λ ys. unlined x ∷ ys) b.same;
     }
 
@@ -75,7 +76,8 @@ form_renumbered c xs h n =
     record {
       node = closed c b.nodes;
       spelled =
-          spelled-closed c b.nodes ∙ ap (λ l. mark.Open c ∷ (l ++ mark.End ∷ [])) b.spelled ∙ ap (λ l. mark.Open c ∷ l) (sym (form_numbered n (spelled_nodes xs))) ∙ sym (ap (numbered n) (spelled-closed c xs));
+          spelled-closed c b.nodes ∙ ap (λ l. mark.Open c ∷ (l ++ mark.End ∷ [])) b.spelled ∙ ap (λ l. mark.Open c ∷ l)
+          (sym (form_numbered n (spelled_nodes xs))) ∙ sym (ap (numbered n) (spelled-closed c xs));
       same = unlined-closed c b.nodes ∙ ap (closed c) b.same ∙ sym (unlined-closed c xs);
     }
 

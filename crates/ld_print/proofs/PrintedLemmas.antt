@@ -57,7 +57,14 @@ rungs_go : (t : Target) → is_target_built t ≡ true → (gs : List Rung) (k b
     → Goes (above site.Between (Some t) k b) n (map_lines (print.rungs_lines gs)) (map Body (numbered n (spelled gs)))
 rungs_go t built gs k b n few f =
     subst (λ ls. Goes (above site.Between (Some t) k b) n (map_lines ls) (map Body (numbered n (spelled gs)))) (rungs_marked gs)
-    (body_goes (spelled gs) (above site.Between (Some t) k b) 0 n t refl built (record { indent = (refl, refl); depth = omega arith; rungs = omega arith; elements = omega arith; openings = omega arith; bytes = omega (arith, few) }) f)
+    (body_goes (spelled gs) (above site.Between (Some t) k b) 0 n t refl built (record {
+      indent = (refl, refl);
+      depth = omega arith;
+      rungs = omega arith;
+      elements = omega arith;
+      openings = omega arith;
+      bytes = omega (arith, few);
+    }) f)
 
 abbrev tail_lines : List Rung → List (List ℕ)
 tail_lines gs = codes "END" ∷ [] ∷ codes "PROGRAM" ∷ print.rungs_lines gs
@@ -72,12 +79,24 @@ program_said n = refl
 tail_goes : (t : Target) → is_target_built t ≡ true → (gs : List Rung) (k b n : ℕ) → b ≤ 450000
     → AllFine (place_in site.Between (Some t) k) (map Body (spelled gs)) → Goes (above site.Pins (Some t) k b) n (map_lines (tail_lines gs)) (tail_forms n gs)
 tail_goes t built gs k b n few f =
-    goes_more (above site.Pins (Some t) k b) (above site.Header (Some t) k (b + 4)) n (codes "END") (Pins pins.End) (map_lines ([] ∷ codes "PROGRAM" ∷ print.rungs_lines gs)) (Header header.Program ∷ map Body (numbered (n + 1 + 1 + 1) (spelled gs)))
+    goes_more (above site.Pins (Some t) k b) (above site.Header (Some t) k (b + 4)) n (codes "END") (Pins pins.End)
+    (map_lines ([] ∷ codes "PROGRAM" ∷ print.rungs_lines gs)) (Header header.Program ∷ map Body (numbered (n + 1 + 1 + 1) (spelled gs)))
     (record { said = refl; short = omega arith; free = λ x. refl; built = refl; chip = refl; shallow = refl; few = refl; room = omega (arith, few) }) refl
-    (goes_more (above site.Header (Some t) k (b + 4)) (above site.Header (Some t) k (b + 4 + 1)) (n + 1) [] Blank (map_lines (codes "PROGRAM" ∷ print.rungs_lines gs)) (Header header.Program ∷ map Body (numbered (n + 1 + 1 + 1) (spelled gs)))
+    (goes_more (above site.Header (Some t) k (b + 4)) (above site.Header (Some t) k (b + 4 + 1)) (n + 1) [] Blank
+    (map_lines (codes "PROGRAM" ∷ print.rungs_lines gs)) (Header header.Program ∷ map Body (numbered (n + 1 + 1 + 1) (spelled gs)))
     (record { said = refl; short = omega arith; free = λ x. refl; built = refl; chip = refl; shallow = refl; few = refl; room = omega (arith, few) }) refl
-    (goes_more (above site.Header (Some t) k (b + 4 + 1)) (above site.Between (Some t) k (b + 4 + 1 + 8)) (n + 1 + 1) (codes "PROGRAM") (Header header.Program) (map_lines (print.rungs_lines gs)) (map Body (numbered (n + 1 + 1 + 1) (spelled gs)))
-    (record { said = program_said (n + 1 + 1); short = omega arith; free = λ x. refl; built = refl; chip = refl; shallow = refl; few = refl; room = omega (arith, few) }) refl
+    (goes_more (above site.Header (Some t) k (b + 4 + 1)) (above site.Between (Some t) k (b + 4 + 1 + 8)) (n + 1 + 1) (codes "PROGRAM") (Header header.Program)
+    (map_lines (print.rungs_lines gs)) (map Body (numbered (n + 1 + 1 + 1) (spelled gs)))
+    (record {
+      said = program_said (n + 1 + 1);
+      short = omega arith;
+      free = λ x. refl;
+      built = refl;
+      chip = refl;
+      shallow = refl;
+      few = refl;
+      room = omega (arith, few);
+    }) refl
     (rungs_go t built gs k (b + 4 + 1 + 8) (n + 1 + 1 + 1) (omega (arith, few)) f)))
 
 -- the pins
@@ -104,7 +123,8 @@ pins_go t built gs all few f (l ∷ ls) k b n e room h =
     let size : ℕ = length (print.pin_line l) in
     let rest = pins_go t built gs all few f ls (k + 1) (b + (length (print.pin_line l) + 1)) (n + 1) (omega (arith, e)) (omega (arith, room, s.short)) h.1 in (
       rest.0,
-      goes_more (above site.Pins (Some t) k b) (above site.Pins (Some t) (k + 1) (b + (length (print.pin_line l) + 1))) n (print.pin_line l) (Pins (pins.Pin l)) (map_lines (print.pin_lines ls ++ tail_lines gs)) (pin_forms ls ++ tail_forms rest.0 gs)
+      goes_more (above site.Pins (Some t) k b) (above site.Pins (Some t) (k + 1) (b + (length (print.pin_line l) + 1))) n (print.pin_line l)
+          (Pins (pins.Pin l)) (map_lines (print.pin_lines ls ++ tail_lines gs)) (pin_forms ls ++ tail_forms rest.0 gs)
           (record {
             said = s.said n;
             short = omega (arith, s.short);
@@ -121,17 +141,28 @@ pins_go t built gs all few f (l ∷ ls) k b n e room h =
 
 header_goes : (t : Option Target) (b n : ℕ) (bytes : List ℕ) (h : HeaderLine) (q : Place) (ls : List Line) (fs : List LineForm) → HeaderSaid bytes (Header h)
     → names_unbuilt (Is (Header h)) ≡ false → is_chipless t (Is (Header h)) ≡ false → b ≤ 6000
-    → record (behind_form (above site.Header t 0 b) (Header h)) { bytes = b + (length bytes + 1) } ≡ q → Goes q (n + 1) ls fs → Goes (above site.Header t 0 b) n (line_of bytes ∷ ls) (Header h ∷ fs)
+    → record (behind_form (above site.Header t 0 b) (Header h)) { bytes = b + (length bytes + 1) } ≡ q → Goes q (n + 1) ls fs → Goes (above site.Header t 0 b)
+    n (line_of bytes ∷ ls) (Header h ∷ fs)
 header_goes t b n bytes h q ls fs s built chip few e rest =
     goes_more (above site.Header t 0 b) q n bytes (Header h) ls fs
-    (record { said = s.said n; short = s.fits.short; free = λ x. s.free t; built = built; chip = chip; shallow = refl; few = refl; room = omega (arith, few, s.fits.short) }) e rest
+    (record {
+      said = s.said n;
+      short = s.fits.short;
+      free = λ x. s.free t;
+      built = built;
+      chip = chip;
+      shallow = refl;
+      few = refl;
+      room = omega (arith, few, s.fits.short);
+    }) e rest
 
 list_said : HeaderSaid (codes "IO LIST") (Header header.Pins)
 list_said = record { said = λ n. refl; free = λ o. refl; fits = record { short = omega arith; clean = refl } }
 
 abbrev read_forms : ℕ → Project → List LineForm
 read_forms m p =
-    Magic ∷ Header (header.Micro (Some p.target)) ∷ Header (header.Cycle p.cycle) ∷ Header (header.Crystal p.crystal) ∷ Header (header.Baud p.baud) ∷ Header header.Pins
+    Magic ∷ Header (header.Micro (Some p.target)) ∷ Header (header.Cycle p.cycle) ∷ Header (header.Crystal p.crystal) ∷ Header (header.Baud p.baud) ∷ Header
+    header.Pins
     ∷ (pin_forms p.pins ++ tail_forms m p.rungs)
 
 whole_goes : (p : Project) → Known p
@@ -167,8 +198,10 @@ whole_goes p k =
           (header_goes t b2 4 crystal (header.Crystal p.crystal) (above site.Header t 0 b3) _ _ x refl refl (omega (arith, few2)) refl
           (header_goes t b3 5 baud (header.Baud p.baud) (above site.Header t 0 b4) _ _ r refl refl (omega (arith, few3)) refl
           (goes_more (above site.Header t 0 b4) (above site.Header t 0 b5) 6 [] Blank _ _
-          (record { said = refl; short = omega arith; free = λ e. refl; built = refl; chip = refl; shallow = refl; few = refl; room = omega (arith, few4) }) refl
-          (header_goes t b5 7 (codes "IO LIST") header.Pins (above site.Pins t 0 b6) (map_lines ls) fs list_said refl refl (omega (arith, few4)) refl rest.1)))))),
+          (record { said = refl; short = omega arith; free = λ e. refl; built = refl; chip = refl; shallow = refl; few = refl; room = omega (arith, few4) })
+          refl
+          (header_goes t b5 7 (codes "IO LIST") header.Pins (above site.Pins t 0 b6) (map_lines ls) fs list_said refl refl (omega (arith, few4)) refl
+          rest.1)))))),
     )
 
 -- no line has a line feed in it
@@ -242,7 +275,8 @@ pub record ReadAgain (text : List ℕ) (p : Project) : Type 0 where
 same_forms : (p : Project) (m : ℕ) (gs : List Rung) → spelled gs ≡ numbered (m + 1 + 1 + 1) (spelled p.rungs)
     → read_forms m p ≡ spelled_project (Chip p.target ∷ Cycle p.cycle ∷ Crystal p.crystal ∷ Baud p.baud ∷ PinSection p.pins ∷ []) gs
 same_forms p m gs e =
-    let front : List LineForm → List LineForm = λ l. Magic ∷ Header (header.Micro (Some p.target)) ∷ Header (header.Cycle p.cycle) ∷ Header (header.Crystal p.crystal) ∷ Header (header.Baud p.baud) ∷ Header header.Pins ∷ l in
+    let front : List LineForm → List LineForm = λ l. Magic ∷ Header (header.Micro (Some p.target)) ∷ Header (header.Cycle p.cycle) ∷ Header
+    (header.Crystal p.crystal) ∷ Header (header.Baud p.baud) ∷ Header header.Pins ∷ l in
     let rest : List LineForm = Header header.Program ∷ map Body (spelled gs) in
     ap (λ ms. front (pin_forms p.pins ++ (Pins pins.End ∷ Header header.Program ∷ map Body ms))) (sym e)
     ∙ ap front (sym (append_assoc (pin_forms p.pins) (Pins pins.End ∷ []) rest))

@@ -72,7 +72,8 @@ fewest_more : (n : ℕ) (ds : List ℕ) → 10 ≤ n → Fewest (n / 10) ds → 
 fewest_more n ds h rec [] some d v = absurd (omega (arith, some))
 fewest_more n ds h rec (c ∷ cs) some d v =
     let s = split c cs in
-    let all = and_parts (list_all is_digit s.front) (list_all is_digit (s.last ∷ [])) (sym (list_all-append is_digit s.front (s.last ∷ [])) ∙ sym (ap (list_all is_digit) s.is) ∙ d) in
+    let all = and_parts (list_all is_digit s.front) (list_all is_digit (s.last ∷ [])) (sym (list_all-append is_digit s.front (s.last ∷ [])) ∙ sym
+    (ap (list_all is_digit) s.is) ∙ d) in
     let f = front_value n s.front s.last h (and_parts (is_digit s.last) true all.1).0 (sym (ap (value_behind 0) s.is) ∙ v) in
     omega (arith, rec s.front f.0 all.0 f.1, length-append ds ((48 + n % 10) ∷ []), ap length s.is, length-append s.front (s.last ∷ []))
 
@@ -176,7 +177,8 @@ unfolding read.operand
 operand_shorter token = by (is_name token) (read.is_character token) refl
   where
     by : (a b : Bool) → read.is_character token ≡ b
-        → IfIs (if a then Is (Var token) else (if b then Is (Num (pos (slice_index_or token 1 0))) else said_map Num (integer token))) (λ o. length (words.operand_text o) ≤ length token)
+        → IfIs (if a then Is (Var token) else (if b then Is (Num (pos (slice_index_or token 1 0))) else said_map Num (integer token)))
+        (λ o. length (words.operand_text o) ≤ length token)
     by true b e = omega arith
     by false true e = character_shorter token e
     by false false e = if_map Num (λ o. length (words.operand_text o) ≤ length token) (integer token) (integer_shorter token)
@@ -195,9 +197,11 @@ integers_shorter : (ts : List (List ℕ)) → IfIs (integers ts) (λ ns. length 
 integers_shorter [] = omega arith
 integers_shorter (t ∷ ts) =
     if_map (λ p. p.0 ∷ p.1) (λ ns. length (behind_spaces (words.integers ns)) ≤ length (behind_spaces (t ∷ ts))) (both (integer t) (integers ts))
-    (if_weak (λ p. (length (signed_decimal p.0) ≤ length t) × (length (behind_spaces (words.integers p.1)) ≤ length (behind_spaces ts))) (λ p. length (behind_spaces (words.integers (p.0 ∷ p.1))) ≤ length (behind_spaces (t ∷ ts))) (both (integer t) (integers ts))
+    (if_weak (λ p. (length (signed_decimal p.0) ≤ length t) × (length (behind_spaces (words.integers p.1)) ≤ length (behind_spaces ts)))
+    (λ p. length (behind_spaces (words.integers (p.0 ∷ p.1))) ≤ length (behind_spaces (t ∷ ts))) (both (integer t) (integers ts))
     (λ p h. omega (arith, h.0, h.1, length-behind_spaces (signed_decimal p.0) (words.integers p.1), length-behind_spaces t ts))
-    (if_both (λ n. length (signed_decimal n) ≤ length t) (λ ns. length (behind_spaces (words.integers ns)) ≤ length (behind_spaces ts)) (integer t) (integers ts) (integer_shorter t) (integers_shorter ts)))
+    (if_both (λ n. length (signed_decimal n) ≤ length t) (λ ns. length (behind_spaces (words.integers ns)) ≤ length (behind_spaces ts)) (integer t)
+    (integers ts) (integer_shorter t) (integers_shorter ts)))
 
 -- tables
 
@@ -245,9 +249,12 @@ table_fits (d ∷ i ∷ []) h = tt
 table_fits (d ∷ i ∷ c ∷ []) h = tt
 table_fits (d ∷ i ∷ c ∷ f ∷ vs) h =
     let how = both (natural_in 0 TABLE_VALUES c) (read.flag f) in
-    let head : IfIs (table_head d i) (HeadShorter d i) = if_both (λ n. length n ≤ length d) (λ o. length (words.operand_text o) ≤ length i) (read.name d) (read.operand i) (name_shorter d) (operand_shorter i) in
-    let how_said : IfIs how (HowShorter c f) = if_both (λ n. length (decimal n) ≤ length c) (λ b. length (words.flag b) ≤ length f) (natural_in 0 TABLE_VALUES c) (read.flag f) (natural_shorter 0 TABLE_VALUES c (omega arith)) (flag_shorter f) in
-    let tail : IfIs (both how (integers vs)) (TailShorter c f vs) = if_both (HowShorter c f) (λ ns. length (behind_spaces (words.integers ns)) ≤ length (behind_spaces vs)) how (integers vs) how_said (integers_shorter vs) in
+    let head : IfIs (table_head d i) (HeadShorter d i) = if_both (λ n. length n ≤ length d) (λ o. length (words.operand_text o) ≤ length i) (read.name d)
+    (read.operand i) (name_shorter d) (operand_shorter i) in
+    let how_said : IfIs how (HowShorter c f) = if_both (λ n. length (decimal n) ≤ length c) (λ b. length (words.flag b) ≤ length f)
+    (natural_in 0 TABLE_VALUES c) (read.flag f) (natural_shorter 0 TABLE_VALUES c (omega arith)) (flag_shorter f) in
+    let tail : IfIs (both how (integers vs)) (TailShorter c f vs) = if_both (HowShorter c f) (λ ns. length (behind_spaces (words.integers ns)) ≤ length
+    (behind_spaces vs)) how (integers vs) how_said (integers_shorter vs) in
     let whole = both (table_head d i) (both how (integers vs)) in
     if_then (λ p. counted p.0.0 p.0.1 p.1.0.0 p.1.0.1 p.1.1) TextFits whole
     (if_weak (λ p. HeadShorter d i p.0 × TailShorter c f vs p.1) (λ p. IfIs (counted p.0.0 p.0.1 p.1.0.0 p.1.0.1 p.1.1) TextFits) whole
@@ -278,10 +285,26 @@ fewer_tokens test (t ∷ ts) = by (test t) (fewer_tokens test ts)
 tokens_length : (bytes : List ℕ) → length (behind_spaces (tokens bytes)) ≤ 1 + length bytes
 tokens_length bytes =
     let line = without_returns bytes in
-    omega (arith, fewer_tokens is_some_bytes (between_blanks line), between_length line, length-reverse (behind is_return (reverse bytes)), length-behind is_return (reverse bytes), length-reverse bytes)
+    omega (
+      arith,
+      fewer_tokens is_some_bytes (between_blanks line),
+      between_length line,
+      length-reverse (behind is_return (reverse bytes)),
+      length-behind
+          is_return (reverse bytes),
+      length-reverse bytes,
+    )
 
 -- what stands behind the word of a table on a line that is not too long
 pub table_room : (bytes token : List ℕ) (ts : List (List ℕ)) → length bytes ≤ LINE_BYTES → tokens bytes ≡ token ∷ ts → word_of token ≡ Some word.LookUpTable
     → length (behind_spaces ts) ≤ 499
 table_room bytes token ts short e w =
-    omega (arith, short, tokens_length bytes, ap (λ x. length (behind_spaces x)) e, length-behind_spaces token ts, ap length (spelled_word token word.LookUpTable w))
+    omega (
+      arith,
+      short,
+      tokens_length bytes,
+      ap (λ x. length (behind_spaces x)) e,
+      length-behind_spaces token ts,
+      ap length
+          (spelled_word token word.LookUpTable w),
+    )

@@ -136,8 +136,11 @@ ends_tokens : (t : List ℕ) (ts : List (List ℕ)) → IsToken t → AllTokens 
     → (0 < length (t ++ behind_spaces ts)) × (ends is_return (t ++ behind_spaces ts) ≡ true)
 ends_tokens t [] h g = rw (append-nil t) (h.some, ends_plain is_return t no_return h.plain)
 ends_tokens t (u ∷ us) h g =
-    let rest = ends_tokens u us g.0 g.1 in
-    (long t (32 ∷ u ++ behind_spaces us) h.some, ends-append is_return t 32 (u ++ behind_spaces us) ∙ ends_some is_return (32 ∷ []) (u ++ behind_spaces us) rest.0 rest.1)
+    let rest = ends_tokens u us g.0 g.1 in (
+      long t (32 ∷ u ++ behind_spaces us) h.some,
+      ends-append is_return t 32 (u ++ behind_spaces us) ∙ ends_some is_return (32 ∷ []) (u ++ behind_spaces us)
+          rest.0 rest.1,
+    )
   where
     long : (a b : List ℕ) → 0 < length a → 0 < length (a ++ b)
     long [] b k = absurd (omega arith)

@@ -62,8 +62,10 @@ no_row a b c d e f g h r s t u v w x y ea eb ec ed ee ef eg eh = rw (ea, eb, ec,
 no_fault : (p : Place) (n : ℕ) (bytes : List ℕ) (f : LineForm) → LineGoes p n bytes f → fault_at p n (line_of bytes) ≡ None
 no_fault p n bytes f g =
     ap (fault_of p n bytes (length bytes + 1)) g.said
-    ∙ no_row (ltb LINE_BYTES (length bytes)) (is_first p.site && false) (not (is_first p.site) && (begins_unbuilt p.target (tokens bytes) || names_unbuilt (Is f))) false (is_chipless p.target (Is f)) false (is_too_deep p (Is f)) (is_one_too_many p (Is f) || ltb FILE_BYTES (p.bytes + (length bytes + 1)))
-    (fault.LineTooLong n) (fault.NotProject n) (fault.NotBuilt n) (fault.BadLine n) (fault.UnknownChip n) (fault.NumberRange n) (fault.TooDeep n) (fault.TooMany n)
+    ∙ no_row (ltb LINE_BYTES (length bytes)) (is_first p.site && false) (not (is_first p.site) && (begins_unbuilt p.target (tokens bytes) || names_unbuilt
+    (Is f))) false (is_chipless p.target (Is f)) false (is_too_deep p (Is f)) (is_one_too_many p (Is f) || ltb FILE_BYTES (p.bytes + (length bytes + 1)))
+    (fault.LineTooLong n) (fault.NotProject n) (fault.NotBuilt n) (fault.BadLine n) (fault.UnknownChip n) (fault.NumberRange n) (fault.TooDeep n)
+    (fault.TooMany n)
     long (no (is_first p.site)) (free (is_first p.site) g.free) refl g.chip refl g.shallow (few (is_one_too_many p (Is f)) g.few)
   where
     long : ltb LINE_BYTES (length bytes) ≡ false
@@ -109,9 +111,11 @@ goes_more p q n bytes f ls fs g e rest =
     let next = behind_line p n bytes f g ∙ e in
     record {
       faultless =
-          ap (λ o. or_else o (first_fault (place.behind p n (line_of bytes)) (n + 1) ls)) (no_fault p n bytes f g) ∙ ap (λ x. first_fault x (n + 1) ls) next ∙ rest.faultless;
+          ap (λ o. or_else o (first_fault (place.behind p n (line_of bytes)) (n + 1) ls)) (no_fault p n bytes f g) ∙ ap (λ x. first_fault x (n + 1) ls) next ∙
+          rest.faultless;
       said =
-          ap (λ s. unblanked s (said_by (place.behind p n (line_of bytes)) (n + 1) ls)) g.said ∙ ap (unblanked (Is f)) (ap (λ x. said_by x (n + 1) ls) next ∙ rest.said) ∙ unblanked-shown f fs;
+          ap (λ s. unblanked s (said_by (place.behind p n (line_of bytes)) (n + 1) ls)) g.said ∙ ap (unblanked (Is f))
+          (ap (λ x. said_by x (n + 1) ls) next ∙ rest.said) ∙ unblanked-shown f fs;
       closed = ap (λ x. (behind_all x (n + 1) ls).site) next ∙ rest.closed;
     }
 
@@ -222,7 +226,14 @@ rung_steps p i n t g b f =
         room = omega (arith, b.bytes, b.rungs, b.elements, b.openings);
       };
       target = g;
-      bounds = record { indent = omega (arith, at.1); depth = b.depth; rungs = omega (arith, few); elements = b.elements; openings = b.openings; bytes = omega (arith, b.bytes, at.0) };
+      bounds = record {
+        indent = omega (arith, at.1);
+        depth = b.depth;
+        rungs = omega (arith, few);
+        elements = b.elements;
+        openings = b.openings;
+        bytes = omega (arith, b.bytes, at.0);
+      };
       same = refl;
     }
 
@@ -273,7 +284,8 @@ end_steps p i n t g b f =
     record {
       line = record {
         said =
-            ap (λ x. said_in x n (indented (i - 4) (codes "END"))) e ∙ ap (λ ts. unless_blank ts (inside n (rung_tokens_say ts (indented (i - 4) (codes "END"))))) w.tokens;
+            ap (λ x. said_in x n (indented (i - 4) (codes "END"))) e ∙ ap
+            (λ ts. unless_blank ts (inside n (rung_tokens_say ts (indented (i - 4) (codes "END"))))) w.tokens;
         short = omega (arith, w.short, at, b.depth);
         free = λ x. ap (begins_unbuilt p.target) w.tokens;
         built = refl;
@@ -302,7 +314,8 @@ end_steps p i n t g b f =
     sized : p.bytes + (length (indented (i - 4) (codes "END")) + 1) + 25 * (i - 4) ≤ 500000 + 513 * p.elements + 200 * p.rungs + 200 * p.openings
     sized = omega (arith, w.short, at, b.bytes)
 
-    target : (x : Bool) → (record (if x then record p { site = site.Between } else record p { depth = p.depth - 1 }) { bytes = p.bytes + (length (indented (i - 4) (codes "END")) + 1) }).target ≡ Some t
+    target : (x : Bool) → (record (if x then record p { site = site.Between } else record p { depth = p.depth - 1 })
+        { bytes = p.bytes + (length (indented (i - 4) (codes "END")) + 1) }).target ≡ Some t
     target true = g
     target false = g
 
@@ -312,11 +325,19 @@ end_steps p i n t g b f =
     none : (d : ℕ) → eqb d 0 ≡ true → d ≡ 0
     none d h = grind (arith, nat_tests)
 
-    bounds : (x : Bool) → eqb p.depth 0 ≡ x → Bounds (record (if x then record p { site = site.Between } else record p { depth = p.depth - 1 }) { bytes = p.bytes + (length (indented (i - 4) (codes "END")) + 1) }) (i - 4)
+    bounds : (x : Bool) → eqb p.depth 0 ≡ x → Bounds (record (if x then record p { site = site.Between } else record p { depth = p.depth - 1 })
+        { bytes = p.bytes + (length (indented (i - 4) (codes "END")) + 1) }) (i - 4)
     bounds true h =
         let d = none p.depth h in
         record { indent = (omega (arith, at, d), d); depth = b.depth; rungs = b.rungs; elements = b.elements; openings = b.openings; bytes = sized }
-    bounds false h = let d = some p.depth h in record { indent = subst (λ x. IndentAt x (p.depth - 1) (i - 4)) (sym e) (omega (arith, at, d)); depth = omega (arith, b.depth); rungs = b.rungs; elements = b.elements; openings = b.openings; bytes = sized }
+    bounds false h = let d = some p.depth h in record {
+      indent = subst (λ x. IndentAt x (p.depth - 1) (i - 4)) (sym e) (omega (arith, at, d));
+      depth = omega (arith, b.depth);
+      rungs = b.rungs;
+      elements = b.elements;
+      openings = b.openings;
+      bytes = sized;
+    }
 
 element_steps : (p : Place) (i n : ℕ) (t : Target) (l : leaf.Leaf) → p.target ≡ Some t → is_target_built t ≡ true → Bounds p i
     → Fine (unsized p) (Body (mark.Element l)) → Steps p i n t (mark.Element l)
@@ -330,7 +351,8 @@ element_steps p i n t l g built b f =
         said = ap (λ x. said_in x n (indented i (element_words l.kind))) e ∙ ap (said_in site.Inside n) d.is ∙ s.said n;
         short = d.short;
         free =
-            λ x. ap (begins_unbuilt p.target) (ap tokens d.is) ∙ ap (λ o. begins_unbuilt o (tokens (replicate d.count 32 ++ element_words l.kind))) g ∙ s.built t built;
+            λ x. ap (begins_unbuilt p.target) (ap tokens d.is) ∙ ap (λ o. begins_unbuilt o (tokens (replicate d.count 32 ++ element_words l.kind))) g ∙ s.built
+            t built;
         built = refl;
         chip = ap (λ o. is_chipless o (Is (Body (mark.Element (record { line = n; kind = l.kind }))))) g;
         shallow = refl;
@@ -338,7 +360,14 @@ element_steps p i n t l g built b f =
         room = omega (arith, d.short, b.bytes, b.rungs, few, b.openings);
       };
       target = g;
-      bounds = record { indent = b.indent; depth = b.depth; rungs = b.rungs; elements = omega (arith, few); openings = b.openings; bytes = omega (arith, d.short, b.bytes) };
+      bounds = record {
+        indent = b.indent;
+        depth = b.depth;
+        rungs = b.rungs;
+        elements = omega (arith, few);
+        openings = b.openings;
+        bytes = omega (arith, d.short, b.bytes);
+      };
       same = refl;
     }
 
@@ -353,5 +382,6 @@ pub body_goes : (ms : List Mark) (p : Place) (i n : ℕ) (t : Target) → p.targ
 body_goes [] p i n t g built b f = record { faultless = refl; said = refl; closed = f }
 body_goes (m ∷ ms) p i n t g built b f =
     let s = steps p i n t m g built b f.0 in
-    goes_more p (next p i n m) n (mark_line i m) (Body (with_line n m)) (map_lines (mark_lines (indent_behind i m) ms)) (map Body (numbered (n + 1) ms)) s.line refl
+    goes_more p (next p i n m) n (mark_line i m) (Body (with_line n m)) (map_lines (mark_lines (indent_behind i m) ms)) (map Body (numbered (n + 1) ms)) s.line
+    refl
     (body_goes ms (next p i n m) (indent_behind i m) (n + 1) t s.target built s.bounds (subst (λ x. AllFine x (map Body ms)) s.same f.1))

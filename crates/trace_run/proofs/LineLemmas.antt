@@ -31,13 +31,15 @@ lines_append duty n p at (r ∷ rs) qs =
     ∙ sym (append_assoc (line_of duty n p at r) (lines_of duty n p (next p at r) rs) (lines_of duty n p (behind p (next p at r) rs) qs))
 
 -- what was written so far of the lines of all readings, where those of some are left
-pub record IsSoFar (duty : DutyShown) (n : Names) (p : IntProgram) (begin : Point) (all : List Reading) (now : Point) (left : List Reading) (old new : List ℕ) : Type 0 where
+pub record IsSoFar (duty : DutyShown) (n : Names) (p : IntProgram) (begin : Point) (all : List Reading) (now : Point) (left : List Reading)
+    (old new : List ℕ) : Type 0 where
   pub front : List ℕ
   pub split : lines_of duty n p begin all ≡ front ++ lines_of duty n p now left
   pub written : new ≡ old ++ front
 
 -- the lines of some more readings were written
-pub so_far_more : (duty : DutyShown) (n : Names) (p : IntProgram) (begin : Point) (all : List Reading) (now : Point) (rs left : List Reading) (old mid new : List ℕ)
+pub so_far_more : (duty : DutyShown) (n : Names) (p : IntProgram) (begin : Point) (all : List Reading) (now : Point) (rs left : List Reading)
+    (old mid new : List ℕ)
     → IsSoFar duty n p begin all now (rs ++ left) old mid → new ≡ mid ++ lines_of duty n p now rs → IsSoFar duty n p begin all (behind p now rs) left old new
 so_far_more duty n p begin all now rs left old mid new s w =
     let lines = lines_of duty n p now rs in
@@ -58,7 +60,8 @@ abbrev pub IsPart : List ℕ → List ℕ → List ℕ → Type 0
 IsPart lines old new = (front : List ℕ) × (rest : List ℕ) × (lines ≡ front ++ rest) × (new ≡ old ++ front)
 
 -- a front of the lines of some more readings was written
-pub so_far_part : (duty : DutyShown) (n : Names) (p : IntProgram) (begin : Point) (all : List Reading) (now : Point) (rs left : List Reading) (old mid new : List ℕ)
+pub so_far_part : (duty : DutyShown) (n : Names) (p : IntProgram) (begin : Point) (all : List Reading) (now : Point) (rs left : List Reading)
+    (old mid new : List ℕ)
     → IsSoFar duty n p begin all now (rs ++ left) old mid → IsPart (lines_of duty n p now rs) mid new → IsPart (lines_of duty n p begin all) old new
 so_far_part duty n p begin all now rs left old mid new s part =
     let front = part.0 in

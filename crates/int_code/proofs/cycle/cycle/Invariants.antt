@@ -11,5 +11,6 @@ invariant-loop-op l = record {
   count : l.p.count ≤ l.op-index;
   sizes : SameSizes l.fn.state l.state;
   idle : IsIdle l.state;
-  stands : (m : Moment) × (es : List Bool) × Stands m l.p l.state × (length es ≡ length m.ifs) × (nests (drop l.op-index l.ops) es ≡ true) × (run l.reading (drop l.op-index l.ops) m ≡ run l.reading l.ops (begin l.reading (store_of l.fn.state)));
+  stands : (m : Moment) × (es : List Bool) × Stands m l.p l.state × (length es ≡ length m.ifs) × (nests (drop l.op-index l.ops) es ≡ true) ×
+      (run l.reading (drop l.op-index l.ops) m ≡ run l.reading l.ops (begin l.reading (store_of l.fn.state)));
 }

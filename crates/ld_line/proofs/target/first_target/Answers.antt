@@ -7,7 +7,8 @@ use Rattle.ld_line.proofs.target.first_target.Goals as goal
 pub loop-word-preserved : goal.loop-word-preserved
 loop-word-preserved c =
     let rest = c.loop-word.rest.now in
-    target_later (pieces 32 rest) c.in-Some.word.now (pieces 32 c.in-Some.behind.now) (first_piece 32 rest c.in-Some.word.now c.in-Some.behind.now c.in-Some.ensures.piece) c.in-None.ensures ∙ c.loop-word.invariant
+    target_later (pieces 32 rest) c.in-Some.word.now (pieces 32 c.in-Some.behind.now) (first_piece 32 rest c.in-Some.word.now c.in-Some.behind.now
+    c.in-Some.ensures.piece) c.in-None.ensures ∙ c.loop-word.invariant
 
 pub returns : goal.returns
 returns c =
@@ -17,4 +18,5 @@ returns c =
 pub returns-in-Some-target_of : goal.returns-in-Some-target_of
 returns-in-Some-target_of c =
     let rest = c.loop-word.rest.now in
-    target_found (pieces 32 rest) c.in-Some.word.now (pieces 32 c.in-Some.behind.now) c.in-Some-target_of.target (first_piece 32 rest c.in-Some.word.now c.in-Some.behind.now c.in-Some.ensures.piece) c.in-Some-target_of.ensures ∙ c.loop-word.invariant
+    target_found (pieces 32 rest) c.in-Some.word.now (pieces 32 c.in-Some.behind.now) c.in-Some-target_of.target
+    (first_piece 32 rest c.in-Some.word.now c.in-Some.behind.now c.in-Some.ensures.piece) c.in-Some-target_of.ensures ∙ c.loop-word.invariant

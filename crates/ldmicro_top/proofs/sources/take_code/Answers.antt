@@ -11,7 +11,8 @@ returns-then-not-same_names-clause-declined g c = record {
     refl,
     λ y.
         let b = c.in-Ok.ensures.bytes y in
-        other_project (g.F.Files.held c.args.files.now) c.args.name.now c.deref.result.now c.args.names.now c.in-Ok-read_interp.said (b.0, b.1, c.deref.ensures.value ∙ b.2)
+        other_project (g.F.Files.held c.args.files.now) c.args.name.now c.deref.result.now c.args.names.now c.in-Ok-read_interp.said
+            (b.0, b.1, c.deref.ensures.value ∙ b.2)
         (c.in-Ok-read_interp.ensures.program, c.in-Ok-read_interp.ensures.within)
         (λ same. let yes = c.same_names.ensures.1 same in cc),
   ));
@@ -20,7 +21,8 @@ returns-then-not-same_names-clause-declined g c = record {
 pub returns-in-Ok-read_interp-clause-holds : goal.returns-in-Ok-read_interp-clause-holds
 returns-in-Ok-read_interp-clause-holds g c y =
     let b = c.in-Ok.ensures.bytes y in
-    holds_code (g.F.Files.held c.args.files.now) c.args.name.now c.deref.result.now c.args.names.now c.in-Ok-read_interp.said (b.0, b.1, c.deref.ensures.value ∙ b.2)
+    holds_code (g.F.Files.held c.args.files.now) c.args.name.now c.deref.result.now c.args.names.now c.in-Ok-read_interp.said
+        (b.0, b.1, c.deref.ensures.value ∙ b.2)
     (c.in-Ok-read_interp.ensures.program, c.in-Ok-read_interp.ensures.within)
     (c.same_names.ensures.0 cc)
 
@@ -36,7 +38,8 @@ returns-in-Err-Fault-clause-declined g c = record {
     refl,
     λ y.
         let b = c.in-Ok.ensures.bytes y in
-        refused_code (g.F.Files.held c.args.files.now) c.args.name.now c.deref.result.now c.args.names.now c.in-Err-Fault.fault.line (b.0, b.1, c.deref.ensures.value ∙ b.2)
+        refused_code (g.F.Files.held c.args.files.now) c.args.name.now c.deref.result.now c.args.names.now c.in-Err-Fault.fault.line
+            (b.0, b.1, c.deref.ensures.value ∙ b.2)
         (subst (λ (e : InterpError). IsCaused c.deref.result.now e) c.in-Err-Fault.field-0-is c.in-Err-Fault.ensures.error),
   ));
 }

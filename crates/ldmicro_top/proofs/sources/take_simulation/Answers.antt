@@ -44,6 +44,7 @@ returns-in-Ok-simulation-clause-simulated g c y =
       project = p;
       source = c.in_ok-legal.ensures.holds y;
       steps = steps;
-      given = trace_before (F.held c.args.files.now) (F.held c.take_project.new.files) c.args.trace.now c.names-2.result.now (names_of p.rungs) steps (c.take_project.ensures.only.same y) (c.names-2.ensures ∙ named) (c.in_ok-trace.ensures.holds y);
+      given = trace_before (F.held c.args.files.now) (F.held c.take_project.new.files) c.args.trace.now c.names-2.result.now (names_of p.rungs) steps
+          (c.take_project.ensures.only.same y) (c.names-2.ensures ∙ named) (c.in_ok-trace.ensures.holds y);
       lines = c.in-Ok-simulation.ensures.lines ∙ simulated_of p n c.in-Ok.program steps named lowered;
     }

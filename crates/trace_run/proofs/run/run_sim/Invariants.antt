@@ -14,5 +14,6 @@ invariant-loop-step g l =
       same : IsSame run l.run;
       later : o.fault_count l.fn.out ≤ o.fault_count l.out;
       few : l.run.passed + sum_by (λ s. s.times) left ≤ most_cycles;
-      lines : o.tells ≡ true → IsSoFar run.duty run.names.now run.sim.program (point_of run) (readings l.step-items) (point_of l.run) (readings left) (o.written l.fn.out) (o.written l.out);
+      lines : o.tells ≡ true → IsSoFar run.duty run.names.now run.sim.program (point_of run) (readings l.step-items) (point_of l.run) (readings left)
+          (o.written l.fn.out) (o.written l.out);
     }
