@@ -34,32 +34,7 @@ pub fn has_master(rungs: &[Rung]) -> bool
 fn is_master(kind: &LeafKind) -> bool
     ensures { result ≡ is_master kind.now }
 {
-    match kind {
-        LeafKind::MasterRelay => true,
-        LeafKind::Contacts { .. }
-        | LeafKind::Coil { .. }
-        | LeafKind::Osr
-        | LeafKind::Osf
-        | LeafKind::Short
-        | LeafKind::Open
-        | LeafKind::Placeholder
-        | LeafKind::Comment { .. }
-        | LeafKind::Timer { .. }
-        | LeafKind::Counter { .. }
-        | LeafKind::Reset { .. }
-        | LeafKind::Move { .. }
-        | LeafKind::Math { .. }
-        | LeafKind::Compare { .. }
-        | LeafKind::Shift { .. }
-        | LeafKind::Table { .. }
-        | LeafKind::ReadAdc { .. }
-        | LeafKind::SetPwm { .. }
-        | LeafKind::Recv { .. }
-        | LeafKind::Send { .. }
-        | LeafKind::Persist { .. }
-        | LeafKind::Linear { .. }
-        | LeafKind::Formatted { .. } => false,
-    }
+    matches!(kind, LeafKind::MasterRelay)
 }
 
 /// How deep PARALLELs of two branches or more stand in one another.
