@@ -1,6 +1,5 @@
 -- what the devices do; `Device` says what they are set to
 pub mod Device
-pub mod Part
 pub mod IoSpace
 pub mod DeviceReads
 pub mod DeviceWrites

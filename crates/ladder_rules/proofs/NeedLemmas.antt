@@ -1,6 +1,6 @@
 -- What a project within the limits needs is a small number.
 use Rattle.std.proofs.Common.{◌≡◌, ℕ, ◌+◌, ◌*◌, ◌≤◌, Bool, true, false, ◌&&◌, cond, nat_le, List, [], ◌∷◌, ◌++◌, length, map, refl, arith, length-append}
-use Rattle.std.specs.Prelude.{◌-◌, ◌==◌, if◌then◌else◌, Option, Some, None, position, slice_index_or}
+use Rattle.std.specs.Prelude.{◌-◌, ◌==◌, if◌then◌else◌, Option, Some, None, slice_index_or}
 use Rattle.std.specs.List.{All, list_any}
 use Rattle.std.proofs.lemmas.Bool.Decides.{nat_tests}
 use Rattle.std.proofs.lemmas.List.Elements.{All-nil, All-cons, All-head, All-tail}
@@ -21,7 +21,7 @@ use Rattle.ladder_tree.specs.declared.project.Node.{Node}
 use Rattle.ladder_tree.specs.declared.project.Rung.{Rung}
 use Rattle.ladder_tree.specs.Forms.{forms_of, forms_in, forms_step, forms_of_all}
 use Rattle.ladder_rules.specs.Limits.{IsShort, IsWithinLimits, extent, most_extent}
-use Rattle.ladder_rules.specs.Formatted.{field, field_at, field_by, is_places}
+use Rattle.ladder_rules.specs.Formatted.{field, field_at, field_by, is_places, mark_in}
 use Rattle.ladder_rules.specs.Needs.{row_of_element, steps, fixed, each, times, field_bytes, growing, element_cost, cost_step, node_cost, nodes_cost, rungs_cost, total, uses, row_of_feature, feature_cost, feature_words}
 use Rattle.ladder_rules.specs.declared.cost.Column.{Column}
 use Rattle.ladder_rules.specs.declared.cost.Column.TheVariants.{Words, Cycles, Ops}
@@ -125,7 +125,7 @@ found_few text (Some i) =
     field_few a b (is_places a) (is_places b) refl refl
 
 bytes_few : (k : LeafKind) → field_bytes k ≤ 6
-bytes_few (Formatted name text) = found_few text (position (λ c. c == 92) text)
+bytes_few (Formatted name text) = found_few text (mark_in text)
 bytes_few _ = omega arith
 
 growing_low : (c : Column) (t : Target) (k : LeafKind) → extent k ≤ most_extent → growing c t k ≤ 310200
@@ -144,10 +144,10 @@ all_back (l ∷ a) b h = all_back a b (All-tail IsShort l (a ++ b) h)
 
 module _ (c : Column) (t : Target) where
   abbrev IsCheap : Node → Type 0
-  IsCheap n = All IsShort (leaves n) → node_cost c t n + 5000 ≤ 320000 * (length (leaves n) + forms_of n)
+  IsCheap n = All IsShort (leaves n) → node_cost c t n + 5000 ≤ 330000 * (length (leaves n) + forms_of n)
 
   list_cheap : (ns : List Node) → Each IsCheap ns → All IsShort (leaves_in ns) →
-      nodes_cost c t ns + 5000 * length ns ≤ 320000 * (length (leaves_in ns) + forms_in ns)
+      nodes_cost c t ns + 5000 * length ns ≤ 330000 * (length (leaves_in ns) + forms_in ns)
   list_cheap [] h short = omega arith
   list_cheap (n ∷ ns) h short =
       let f = h.0 (all_front (leaves n) (leaves_in ns) short) in
@@ -161,14 +161,14 @@ module _ (c : Column) (t : Target) where
         sum_by-cons (λ x. x) (forms_of n) (map forms_of ns),
       )
 
-  leaf_cheap : (l : element.Leaf) → All IsShort (l ∷ []) → element_cost c t l.kind + 5000 ≤ 320000 * (1 + 0)
+  leaf_cheap : (l : element.Leaf) → All IsShort (l ∷ []) → element_cost c t l.kind + 5000 ≤ 330000 * (1 + 0)
   leaf_cheap l short =
       let f = fixed_low c t (row_of_element l.kind) in
       let g = growing_low c t l.kind (All-head IsShort l [] short) in
       omega (arith, f, g)
 
   parallel_cheap : (ns : List Node) → Each IsCheap ns → All IsShort (leaves_in ns) →
-      fixed c t cost.Parallel + (fixed c t cost.Branch * length (map (node_cost c t) ns) + nodes_cost c t ns) + 5000 ≤ 320000 *
+      fixed c t cost.Parallel + (fixed c t cost.Branch * length (map (node_cost c t) ns) + nodes_cost c t ns) + 5000 ≤ 330000 *
       (length (leaves_in ns) + (1 + forms_in ns))
   parallel_cheap ns h short =
       let k = list_cheap ns h short in
@@ -188,7 +188,7 @@ module _ (c : Column) (t : Target) where
   each_cheap [] = tt
   each_cheap (n ∷ ns) = (node_cheap n, each_cheap ns)
 
-  rungs_cheap : (gs : List Rung) → All IsShort (all_leaves gs) → rungs_cost c t gs ≤ 5000 * length gs + 320000 * (length (all_leaves gs) + forms_of_all gs)
+  rungs_cheap : (gs : List Rung) → All IsShort (all_leaves gs) → rungs_cost c t gs ≤ 5000 * length gs + 330000 * (length (all_leaves gs) + forms_of_all gs)
   rungs_cheap [] short = omega arith
   rungs_cheap (g ∷ gs) short =
       let f = list_cheap g.nodes (each_cheap g.nodes) (all_front (leaves_in g.nodes) (all_leaves gs) short) in
@@ -196,7 +196,7 @@ module _ (c : Column) (t : Target) where
       let r = fixed_low c t cost.Rung in
       omega (arith, f, k, r, length-append (leaves_in g.nodes) (all_leaves gs))
 
-  pub total_small : (gs : List Rung) → IsWithinLimits gs → total c t gs ≤ 2600000000
+  pub total_small : (gs : List Rung) → IsWithinLimits gs → total c t gs ≤ 2650000000
   total_small gs h =
       let k = rungs_cheap gs h.extents in
       let r = fixed_low c t cost.Base in

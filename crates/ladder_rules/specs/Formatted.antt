@@ -18,8 +18,11 @@ field_at text None = field 0 0
 field_at text (Some i) = field_by (slice_index_or text (i + 1) 0) (slice_index_or text (i + 2) 0)
 
 -- the field begins with the first backslash (92)
+abbrev pub mark_in : List ℕ → Option ℕ
+mark_in text = position (λ c. c == 92) text
+
 abbrev pub field_of : List ℕ → Field
-field_of text = field_at text (position (λ c. c == 92) text)
+field_of text = field_at text (mark_in text)
 
 abbrev pub has_field : List ℕ → Bool
 has_field text = nat_lt 0 (field_of text).given

@@ -1,7 +1,7 @@
 //! The field of a formatted string's text.
 
 ghost use Rattle.std.specs.Prelude.{◌≡◌, ◌≤◌, slice_index_or};
-ghost use Rattle.ladder_rules.specs.Formatted.{field_by, field_of, sent_length};
+ghost use Rattle.ladder_rules.specs.Formatted.{field_by, field_of, mark_in, sent_length};
 
 /// What begins a field: a backslash.
 const MARK: u8 = 92;
@@ -20,10 +20,16 @@ fn field_of(text: &[u8]) -> Field
     ensures value { result ≡ field_of text.now }
     ensures few { result.given ≤ 6 }
 {
-    match text.iter().position(|c| *c == MARK) {
+    match mark_in(text) {
         Some(place) => field_by(byte_at(text, place + 1), byte_at(text, place + 2)),
         None => NO_FIELD,
     }
+}
+
+fn mark_in(text: &[u8]) -> Option<usize>
+    ensures { result ≡ mark_in text.now }
+{
+    text.iter().position(|c| *c == MARK)
 }
 
 fn byte_at(text: &[u8], place: usize) -> u8
