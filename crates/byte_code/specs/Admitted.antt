@@ -2,6 +2,7 @@
 use Rattle.std.specs.Prelude.{ℕ, suc, ◌+◌, ◌==◌, nat_lt, nat_le, ◌&&◌, ◌||◌, Bool, true, false, List}
 use Rattle.std.specs.List.{list_any, list_all}
 use Rattle.chip_tables.specs.Memory.{ram_ranges, holds, eeprom_size}
+use Rattle.chip_tables.specs.declared.pic16.TheConstants.{SCRATCH_FIRST, SCRATCH_END}
 use Rattle.chip_tables.specs.declared.pins.PortBit.{PortBit}
 use Rattle.chip_tables.specs.declared.target.Target.{Target}
 use Rattle.chip_tables.specs.declared.target.Target.TheVariants.{F628, F877, Mega16, Interp, AnsiC}
@@ -44,8 +45,8 @@ pub record Outfit : Type 0 where
 
 -- the compiler's own cells: 70h..7Fh of a PIC; R0, R2 to R15, R20 to R27, R30 and R31 of the ATmega16
 abbrev pub is_scratch : Target → ℕ → Bool
-is_scratch F628 a = nat_le 0x70 a && nat_lt a 0x80
-is_scratch F877 a = nat_le 0x70 a && nat_lt a 0x80
+is_scratch F628 a = nat_le SCRATCH_FIRST a && nat_lt a SCRATCH_END
+is_scratch F877 a = nat_le SCRATCH_FIRST a && nat_lt a SCRATCH_END
 is_scratch Mega16 a = a == 0 || (nat_le 2 a && nat_lt a 16 || (nat_le 20 a && nat_lt a 28 || nat_le 30 a && nat_lt a 32))
 is_scratch Interp a = false
 is_scratch AnsiC a = false

@@ -2,6 +2,8 @@
 use Rattle.std.specs.Prelude.{◌≡◌, ℕ, suc, ◌+◌, ◌*◌, ◌%◌, List, [], ◌∷◌, length, None, Some, Bool, false, slice_get, slice_index}
 use Rattle.chip_tables.specs.Bits.{bit_of}
 use Rattle.chip_tables.specs.Scratch.{avr_scratch}
+use Rattle.chip_tables.specs.declared.mega16.TheConstants.{SRAM_FIRST}
+use Rattle.chip_tables.specs.declared.memory.TheConstants.{DATA_ADDRESSES}
 use Rattle.chip_tables.specs.declared.outside.PinReading.{PinReading}
 use Rattle.chip_tables.specs.declared.pins.PortBit.{PortBit}
 use Rattle.chip_tables.specs.declared.target.Target.TheVariants.{Mega16}
@@ -31,7 +33,7 @@ copier =
     ∷ paced (Jump 0) 0 1
     ∷ []
 
--- in each cycle a routine that adds 1 to the word at 60h is called from two places
+-- in each cycle a routine that adds 1 to the first word of the SRAM is called from two places
 abbrev pub by_twos : List Paced
 by_twos =
     paced (Start 0) 1 0
@@ -41,7 +43,7 @@ by_twos =
     ∷ paced (Call 1) 0 1
     ∷ paced (Jump 0) 0 1
     ∷ paced (Label 1) 0 2
-    ∷ paced (Word (words.Increment 0x60)) 0 2
+    ∷ paced (Word (words.Increment SRAM_FIRST)) 0 2
     ∷ paced Return 0 2
     ∷ []
 
@@ -51,7 +53,7 @@ pub record IsFresh (s : Bytes) : Type 0 where
   pub open_call : s.open_call ≡ None
   pub converting : s.store.converting ≡ false
   pub scratch : s.store.scratch ≡ avr_scratch
-  pub cells : length s.store.cells ≡ 1120
+  pub cells : length s.store.cells ≡ DATA_ADDRESSES
   pub latches : length s.store.latches ≡ 5
 
 -- what holds at the poll, in place 2 of both programs, wherever a run comes there
@@ -66,7 +68,7 @@ IsCopied readings b =
 
 -- the word is 2 more for each reading, modulo 65536
 abbrev pub IsByTwos : ℕ → Moment Counted → Type 0
-IsByTwos first b = word_at b.state.bytes.store 0x60 % 65536 ≡ (first + 2 * b.taken) % 65536
+IsByTwos first b = word_at b.state.bytes.store SRAM_FIRST % 65536 ≡ (first + 2 * b.taken) % 65536
 
 abbrev pub pin : ℕ → ℕ → PortBit
 pin port b = record { port = port; bit = b }

@@ -2,6 +2,7 @@
 use Rattle.std.specs.Prelude.{ℕ, zero, suc, ◌+◌, ◌-◌, ◌*◌, ◌/◌, ◌%◌, ◌==◌, nat_lt, nat_le, not, Bool, true, false, if◌then◌else◌, List, [], ◌∷◌, Option, Some, None, is_some, unwrap_or, slice_index, slice_set, slice_index_or, bit_xor}
 use Rattle.chip_tables.specs.Bits.{bit_of}
 use Rattle.chip_tables.specs.Memory.{ram_address}
+use Rattle.chip_tables.specs.declared.memory.TheConstants.{EEPROM_MOST}
 use Rattle.byte_code.specs.declared.prim.BytePrim.{BytePrim}
 use Rattle.byte_code.specs.declared.prim.BytePrim.TheVariants.{Start, CyclePoll, AdcPoll, Label, Jump, Call, Return, JumpWhere, Bit, Byte, Word, Compare, Device, Eeprom, Table}
 use Rattle.byte_code.specs.declared.prim.Test.{Test}
@@ -99,7 +100,7 @@ divided d =
     else with_word (with_word d s.outcome r) s.left (a * 2 % 65536)
 
 abbrev pub ee_address : Store → ℕ
-ee_address d = d.address % 512
+ee_address d = d.address % EEPROM_MOST
 
 -- a write begins where none goes on
 abbrev pub written : Store → ℕ → Store

@@ -4,10 +4,11 @@ ghost use Rattle.std.specs.Prelude.{◌≡◌, ◌-◌, ◌+◌, ◌*◌, ◌/�
 ghost use Rattle.byte_code.specs.Store.{cell, with_cell, word_at, with_word, lifted, high_from, with_high};
 ghost use Rattle.byte_code.specs.Table.{plain, flagged, value_of, cell_cleared, cleared, none_waits, if_set, multiplied, divided, ee_address, written, waiting, flushed, sent_on};
 ghost use Rattle.chip_tables.specs.Memory.{ram_address};
+ghost use Rattle.chip_tables.specs.declared.memory.TheConstants.{EEPROM_MOST};
 
 use crate::prim::FlagKind;
 use crate::store::{Flag, Store};
-use chip_tables::{bit_of, ram_byte};
+use chip_tables::{EEPROM_MOST, bit_of, ram_byte};
 
 impl Store {
     pub(crate) fn clear_flag(&mut self)
@@ -96,9 +97,9 @@ impl Store {
 
     fn ee_place(&self) -> u16
         ensures value { result ≡ ee_address self.now }
-        ensures below { result < 512 }
+        ensures below { result < EEPROM_MOST }
     {
-        self.address % 512
+        self.address % EEPROM_MOST as u16
     }
 
     pub(crate) fn ee_byte(&self) -> u8

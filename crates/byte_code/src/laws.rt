@@ -1,6 +1,7 @@
 //! Laws of the byte machine, each the contract of a function that does nothing.
 
 ghost use Rattle.std.specs.Prelude.{◌≡◌, true, false, List, Bool};
+ghost use Rattle.chip_tables.specs.declared.mega16.TheConstants.{SRAM_FIRST};
 ghost use Rattle.chip_tables.specs.declared.outside.PinReading.{PinReading};
 ghost use Rattle.byte_code.specs.declared.state.Bytes.{Bytes};
 ghost use Rattle.byte_code.specs.Store.{word_at};
@@ -18,7 +19,7 @@ pub fn copier_copies()
 /// A program that calls a routine from two places begins each primitive as often as it says, and counts by twos.
 pub fn routine_is_called_twice()
     ensures counts { (s : Bytes) (readings : List PinReading) (answers : List Bool) → IsFresh s → KeepsCounts by_twos s readings answers }
-    ensures counts_on { (s : Bytes) (readings : List PinReading) (answers : List Bool) → IsFresh s → AtPolls by_twos s readings answers (IsByTwos (word_at s.store 0x60)) }
+    ensures counts_on { (s : Bytes) (readings : List PinReading) (answers : List Bool) → IsFresh s → AtPolls by_twos s readings answers (IsByTwos (word_at s.store SRAM_FIRST)) }
 {}
 
 /// The copier and the program with the routine may stand in code for a project whose pins they use, and the copier in none whose input it writes.

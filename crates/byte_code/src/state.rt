@@ -7,7 +7,7 @@ ghost use Rattle.byte_code.specs.Store.{cell};
 ghost use Rattle.chip_tables.specs.Scratch.{scratch_of};
 
 use crate::store::Store;
-use chip_tables::{PinReading, Poll, Scratch, Target, scratch_cells};
+use chip_tables::{DATA_ADDRESSES, EEPROM_MOST, PinReading, Poll, Scratch, Target, scratch_cells};
 
 /// The byte machine between two primitives.
 #[derive(Drop)]
@@ -31,7 +31,11 @@ pub struct ByteState {
 
 impl ByteState {
     /// The machine of a chip in front of its first step, with any cells and any EEPROM; none where the target is no chip.
-    pub fn new(target: Target, cells: &[u8; 1120], eeprom: &[u8; 512]) -> Option<ByteState>
+    pub fn new(
+        target: Target,
+        cells: &[u8; DATA_ADDRESSES],
+        eeprom: &[u8; EEPROM_MOST],
+    ) -> Option<ByteState>
         ensures { result ≡ option_map (fresh target cells.now eeprom.now) (scratch_of target) }
     {
         match scratch_cells(target) {
@@ -48,7 +52,12 @@ impl ByteState {
     }
 }
 
-fn fresh(target: Target, cells: &[u8; 1120], eeprom: &[u8; 512], scratch: Scratch) -> ByteState
+fn fresh(
+    target: Target,
+    cells: &[u8; DATA_ADDRESSES],
+    eeprom: &[u8; EEPROM_MOST],
+    scratch: Scratch,
+) -> ByteState
     ensures { result ≡ fresh target cells.now eeprom.now scratch }
 {
     ByteState {

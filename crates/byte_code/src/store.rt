@@ -1,7 +1,7 @@
 //! What the byte machine holds.
 
 use crate::prim::FlagKind;
-use chip_tables::{PinReading, Scratch, Target};
+use chip_tables::{DATA_ADDRESSES, EEPROM_MOST, PinReading, Scratch, Target};
 
 /// The flag that the last comparison left.
 #[derive(Clone, Copy)]
@@ -16,10 +16,10 @@ pub struct Store {
     pub target: Target,
     pub scratch: Scratch,
     /// The cells by their addresses.
-    pub cells: [u8; 1120],
+    pub cells: [u8; DATA_ADDRESSES],
     /// The latches of the ports, from A on.
     pub latches: [u8; 5],
-    pub eeprom: [u8; 512],
+    pub eeprom: [u8; EEPROM_MOST],
     /// The EEPROM's address.
     pub address: u16,
     /// The channel that is converted.

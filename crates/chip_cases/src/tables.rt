@@ -2,8 +2,9 @@
 
 use crate::words::{CaseError, number, short, target};
 use chip_tables::{
-    CostKind, Target, adc_channel, baud_setting, cost, eeprom_have, flash_words, pin_of, pwm_pin,
-    pwm_setting, ram_byte, ram_have, rx_pin, timer_setting, tx_pin,
+    CostKind, Target, adc_channel, baud_setting, configuration_word, cost, eeprom_have,
+    flash_words, mega16, pic16, pin_of, pwm_pin, pwm_setting, ram_byte, ram_have, rx_pin,
+    timer_setting, tx_pin,
 };
 use std::alloc::Global;
 
@@ -36,7 +37,18 @@ fn of_target(alloc: Global, table: &str, chip: Target) -> Result<String, CaseErr
                 flash_words(chip)
             )?)
         }
+        "configuration" => Ok(format!(in alloc; "{:?}", configuration_word(chip))?),
+        "wait" => Ok(format!(in alloc; "{:?}", wait(chip))?),
         _ => Err(CaseError::NoCase),
+    }
+}
+
+/// The cycles of a turn of a waiting loop.
+fn wait(chip: Target) -> Option<u32> {
+    match chip {
+        Target::F628 | Target::F877 => Some(pic16::WAIT_CYCLES),
+        Target::Mega16 => Some(mega16::WAIT_CYCLES),
+        Target::Interp | Target::AnsiC => None,
     }
 }
 
@@ -78,6 +90,9 @@ fn kind(word: &str) -> Result<CostKind, CaseError> {
         "SetPwm" => Ok(CostKind::SetPwm),
         "Persist" => Ok(CostKind::Persist),
         "MasterRelay" => Ok(CostKind::MasterRelay),
+        "Linear" => Ok(CostKind::Linear),
+        "Formatted" => Ok(CostKind::Formatted),
+        "FormattedField" => Ok(CostKind::FormattedField),
         _ => Err(CaseError::NoCase),
     }
 }

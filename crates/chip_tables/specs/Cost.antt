@@ -4,7 +4,7 @@ use Rattle.std.specs.Prelude.{ℕ}
 use Rattle.chip_tables.specs.declared.target.Target.{Target}
 use Rattle.chip_tables.specs.declared.target.Target.TheVariants.{F628, F877, Mega16, Interp, AnsiC}
 use Rattle.chip_tables.specs.declared.cost_kind.CostKind.{CostKind}
-use Rattle.chip_tables.specs.declared.cost_kind.CostKind.TheVariants.{Base, MulFeature, DivFeature, PersistFeature, UartFeature, AdcFeature, PwmFeature, Rung, Parallel, Branch, Contacts, Coil, OneShot, Still, Open, TonRto, Tof, Count, Reset, Move, AddSub, Mul, Div, Compare, Shift, Table, ReadAdc, SetPwm, Uart, Persist, MasterRelay}
+use Rattle.chip_tables.specs.declared.cost_kind.CostKind.TheVariants.{Base, MulFeature, DivFeature, PersistFeature, UartFeature, AdcFeature, PwmFeature, Rung, Parallel, Branch, Contacts, Coil, OneShot, Still, Open, TonRto, Tof, Count, Reset, Move, AddSub, Mul, Div, Compare, Shift, Table, ReadAdc, SetPwm, Uart, Persist, MasterRelay, Linear, Formatted, FormattedField}
 use Rattle.chip_tables.specs.declared.cost_kind.Cost.{Cost}
 use Rattle.chip_tables.specs.declared.cost_table.CostCell.{CostCell}
 use Rattle.chip_tables.specs.declared.cost_table.CostRow.{CostRow}
@@ -52,6 +52,9 @@ row_of SetPwm = row 0 170 140 4500 4
 row_of Uart = row 30 36 30 60 8
 row_of Persist = row 110 140 120 500 20
 row_of MasterRelay = row 16 24 24 36 8
+row_of Linear = record { f628 = growing 60 180; f877 = growing 80 230; mega16 = growing 60 170; cycles = growing 4400 80; ops = growing 10 7 }
+row_of Formatted = record { f628 = growing 250 40; f877 = growing 340 56; mega16 = growing 260 36; cycles = growing 900 60; ops = growing 45 4 }
+row_of FormattedField = record { f628 = growing 0 150; f877 = growing 0 190; mega16 = growing 0 140; cycles = growing 0 4700; ops = growing 0 14 }
 
 abbrev pub words_on : Target → CostRow → CostCell
 words_on F628 r = r.f628

@@ -1,7 +1,9 @@
 -- The memories of each target: RAM for variables and bits, EEPROM, program flash.
 use Rattle.std.specs.Prelude.{ℕ, ◌+◌, ◌-◌, nat_lt, nat_le, ◌&&◌, Bool, IsTrue, if◌then◌else◌, List, [], ◌∷◌, Option, Some, None, sum_by}
 use Rattle.std.specs.List.{list_any}
+use Rattle.chip_tables.specs.declared.mega16.TheConstants.{EEPROM_BYTES, FLASH_WORDS, SCRATCH_FIRST, SRAM_FIRST}
 use Rattle.chip_tables.specs.declared.memory.Range.{Range}
+use Rattle.chip_tables.specs.declared.memory.TheConstants.{EEPROM_MOST}
 use Rattle.chip_tables.specs.declared.target.Target.{Target}
 use Rattle.chip_tables.specs.declared.target.Target.TheVariants.{F628, F877, Mega16, Interp, AnsiC}
 
@@ -21,7 +23,7 @@ holds address r = nat_le r.first address && nat_le address r.last
 abbrev pub ram_ranges : Target → List Range
 ram_ranges F628 = range 0x20 0x6f ∷ range 0xa0 0xef ∷ range 0x120 0x14f ∷ []
 ram_ranges F877 = range 0x20 0x6f ∷ range 0xa0 0xef ∷ range 0x110 0x16f ∷ range 0x190 0x1ef ∷ []
-ram_ranges Mega16 = range 0x60 0x41f ∷ []
+ram_ranges Mega16 = range SRAM_FIRST (SCRATCH_FIRST - 1) ∷ []
 ram_ranges Interp = []
 ram_ranges AnsiC = []
 
@@ -50,15 +52,15 @@ IsRam target address = IsTrue (list_any (holds address) (ram_ranges target))
 abbrev pub eeprom_size : Target → ℕ
 eeprom_size F628 = 128
 eeprom_size F877 = 256
-eeprom_size Mega16 = 512
-eeprom_size Interp = 512
-eeprom_size AnsiC = 512
+eeprom_size Mega16 = EEPROM_BYTES
+eeprom_size Interp = EEPROM_MOST
+eeprom_size AnsiC = EEPROM_MOST
 
 -- program words of a chip; the device overview of each data sheet (the ATmega16's 16 K bytes are
 -- 8 K words)
 abbrev pub flash_size : Target → Option ℕ
 flash_size F628 = Some 2048
 flash_size F877 = Some 8192
-flash_size Mega16 = Some 8192
+flash_size Mega16 = Some FLASH_WORDS
 flash_size Interp = None
 flash_size AnsiC = None

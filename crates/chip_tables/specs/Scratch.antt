@@ -1,6 +1,7 @@
 -- The cells of a chip that are left to the compiler: 70h..7Fh of a PIC; the registers, and the SRAM from 420h on, of the ATmega16. Which cell holds
 -- what is this project's choice.
 use Rattle.std.specs.Prelude.{ℕ, ◌+◌, ◌-◌, ◌/◌, ◌%◌, ◌==◌, nat_lt, if◌then◌else◌, Option, Some, None}
+use Rattle.chip_tables.specs.declared.pic16.TheConstants.{SCRATCH_FIRST}
 use Rattle.chip_tables.specs.declared.scratch.CellBit.{CellBit}
 use Rattle.chip_tables.specs.declared.scratch.Scratch.{Scratch}
 use Rattle.chip_tables.specs.declared.scratch.TheConstants.{WIRES}
@@ -50,9 +51,9 @@ scratch_of AnsiC = None
 abbrev pub avr_wire : ℕ → CellBit
 avr_wire w = if w == 0 then at_bit 20 0 else if nat_lt w 9 then at_bit (w + 1) 0 else at_bit (10 + (w - 9) / 8) ((w - 9) % 8)
 
--- the wires share the bytes from 70h on
+-- the wires share the bytes from the first one on
 abbrev pub pic_wire : ℕ → CellBit
-pic_wire w = at_bit (0x70 + w / 8) (w % 8)
+pic_wire w = at_bit (SCRATCH_FIRST + w / 8) (w % 8)
 
 abbrev pub wire_of : Target → ℕ → Option CellBit
 wire_of F628 w = if nat_lt w WIRES then Some (pic_wire w) else None

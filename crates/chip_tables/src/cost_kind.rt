@@ -65,14 +65,20 @@ pub enum CostKind {
     Persist,
     /// A master control relay.
     MasterRelay,
+    /// A piecewise linear function.
+    Linear,
+    /// A formatted string, without its field.
+    Formatted,
+    /// The field of a formatted string.
+    FormattedField,
 }
 
 /// The most that a part of a program costs on a target: words of program flash, instruction cycles
 /// in one cycle of the program, and operations of the interpretable code.
 ///
-/// The fields `words`, `cycles` and `ops` count once. The others are of a shift register and a
-/// look-up table: `words_each` and `cycles_each` count for each place of a shift register after the
-/// first, `ops_each` for each of its places, and all three for each entry of a look-up table.
+/// The fields `words`, `cycles` and `ops` count once. Of the others `words_each` and `cycles_each` count for each place of a shift register
+/// after the first and `ops_each` for each of its places; all three count for each entry of a look-up table, each point of a piecewise linear
+/// function, each byte that a formatted string sends, and each byte of its field.
 #[derive(Clone, Copy, Debug, PartialEq, Eq)]
 pub struct Cost {
     pub words: u32,

@@ -62,6 +62,57 @@ const TABLE: CostRow = CostRow {
     ops: CostCell { once: 4, each: 0 },
 };
 
+const LINEAR: CostRow = CostRow {
+    f628: CostCell {
+        once: 60,
+        each: 180,
+    },
+    f877: CostCell {
+        once: 80,
+        each: 230,
+    },
+    mega16: CostCell {
+        once: 60,
+        each: 170,
+    },
+    cycles: CostCell {
+        once: 4400,
+        each: 80,
+    },
+    ops: CostCell { once: 10, each: 7 },
+};
+
+const FORMATTED: CostRow = CostRow {
+    f628: CostCell {
+        once: 250,
+        each: 40,
+    },
+    f877: CostCell {
+        once: 340,
+        each: 56,
+    },
+    mega16: CostCell {
+        once: 260,
+        each: 36,
+    },
+    cycles: CostCell {
+        once: 900,
+        each: 60,
+    },
+    ops: CostCell { once: 45, each: 4 },
+};
+
+const FORMATTED_FIELD: CostRow = CostRow {
+    f628: CostCell { once: 0, each: 150 },
+    f877: CostCell { once: 0, each: 190 },
+    mega16: CostCell { once: 0, each: 140 },
+    cycles: CostCell {
+        once: 0,
+        each: 4700,
+    },
+    ops: CostCell { once: 0, each: 14 },
+};
+
 /// A row whose costs count once.
 fn fixed(f628: u32, f877: u32, mega16: u32, cycles: u32, ops: u32) -> CostRow
     ensures { result ≡ row f628 f877 mega16 cycles ops }
@@ -122,5 +173,8 @@ fn row_of_kind(kind: CostKind) -> CostRow
         CostKind::Uart => fixed(30, 36, 30, 60, 8),
         CostKind::Persist => fixed(110, 140, 120, 500, 20),
         CostKind::MasterRelay => fixed(16, 24, 24, 36, 8),
+        CostKind::Linear => LINEAR,
+        CostKind::Formatted => FORMATTED,
+        CostKind::FormattedField => FORMATTED_FIELD,
     }
 }

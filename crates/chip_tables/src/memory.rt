@@ -3,7 +3,17 @@
 ghost use Rattle.std.specs.Prelude.{ℕ, ◌≡◌, ◌<◌, ◌↔◌, Some, None, IsSome, IfSome, sum_by};
 ghost use Rattle.chip_tables.specs.Memory.{ram_size, eeprom_size, flash_size, ram_ranges, ram_address, IsRam, byte_at, size};
 
+use crate::mega16::{EEPROM_BYTES, FLASH_WORDS, SCRATCH_FIRST, SRAM_FIRST};
 use crate::target::Target;
+
+/// The words of the largest program flash of a chip, that of the PIC16F877 and of the ATmega16.
+pub const FLASH_MOST: u32 = 8192;
+
+/// The bytes of the largest EEPROM of a chip, that of the ATmega16.
+pub const EEPROM_MOST: usize = 512;
+
+/// How many addresses the largest data memory of a chip has, that of the ATmega16: 0 to 45Fh.
+pub const DATA_ADDRESSES: usize = 0x460;
 
 /// Addresses of data memory that follow one another, both ends among them.
 #[derive(Clone, Copy)]
@@ -70,9 +80,10 @@ const F877_RAM: [Range; 4] = ranges! {
     0x190 0x1ef,
 };
 
-const MEGA16_RAM: [Range; 1] = ranges! {
-    0x60 0x41f,
-};
+const MEGA16_RAM: [Range; 1] = [Range {
+    first: SRAM_FIRST,
+    last: SCRATCH_FIRST - 1,
+}];
 
 /// The address of byte `index` of the ranges one after the other.
 fn byte_in<const N: usize>(ranges: &[Range; N], index: u32) -> Option<u16>
@@ -96,7 +107,8 @@ pub fn eeprom_have(target: Target) -> u32
     match target {
         Target::F628 => 128,
         Target::F877 => 256,
-        Target::Mega16 | Target::Interp | Target::AnsiC => 512,
+        Target::Mega16 => EEPROM_BYTES as u32,
+        Target::Interp | Target::AnsiC => EEPROM_MOST as u32,
     }
 }
 
@@ -106,7 +118,8 @@ pub fn flash_words(target: Target) -> Option<u32>
 {
     match target {
         Target::F628 => Some(2048),
-        Target::F877 | Target::Mega16 => Some(8192),
+        Target::F877 => Some(8192),
+        Target::Mega16 => Some(FLASH_WORDS),
         Target::Interp | Target::AnsiC => None,
     }
 }

@@ -3,6 +3,7 @@
 ghost use Rattle.std.specs.Prelude.{◌≡◌, ◌<◌, IfSome};
 ghost use Rattle.chip_tables.specs.Scratch.{at_bit, pic_scratch, avr_scratch, scratch_of, avr_wire, pic_wire, wire_of};
 
+use crate::pic16::SCRATCH_FIRST;
 use crate::target::Target;
 
 /// How many wires there is room for: the bits of a program that last no longer than a cycle.
@@ -107,7 +108,7 @@ fn pic_wire(index: u32) -> CellBit
     ensures { result ≡ pic_wire index }
 {
     CellBit {
-        address: 0x70 + (index / 8) as u16,
+        address: SCRATCH_FIRST + (index / 8) as u16,
         bit: (index % 8) as u8,
     }
 }

@@ -5,6 +5,7 @@ use Rattle.std.proofs.lemmas.Bool.Decides.{nat_tests}
 use Rattle.std.proofs.lemmas.Option.{slice_get_past}
 use Rattle.std.proofs.lemmas.List.Elements.{All-head, All-tail, All-take, All-drop}
 use Rattle.std.specs.List.{range_with_len, list_any}
+use Rattle.chip_tables.specs.declared.memory.TheConstants.{FLASH_MOST}
 use Rattle.chip_tables.specs.declared.target.Target.{Target}
 use Rattle.chip_tables.specs.declared.target.Target.TheVariants.{F628, F877, Mega16, Interp, AnsiC}
 use Rattle.hex.specs.Hex.{IsBytes}
@@ -83,7 +84,7 @@ pub record Filled (before : List Said) (bytes : List ℕ) : Type 0 where
   pub unended : is_ended before ≡ false
   pub given : (a : ℕ) → given before a ≡ slice_get bytes a
 
-pub flash_small : (t : Target) → flash_of t ≤ 8192
+pub flash_small : (t : Target) → flash_of t ≤ FLASH_MOST
 flash_small F628 = omega arith
 flash_small F877 = omega arith
 flash_small Mega16 = omega arith

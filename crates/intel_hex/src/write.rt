@@ -1,6 +1,7 @@
 //! Writing an image.
 
 ghost use Rattle.std.specs.Prelude.{◌≡◌, ◌+◌, ◌*◌, ◌≤◌, ◌<◌, ◌%◌, ◌^◌, ◌++◌, ◌∷◌, [], length, sum, IfOk, OnOk, Some};
+ghost use Rattle.chip_tables.specs.declared.memory.TheConstants.{FLASH_MOST};
 ghost use Rattle.intel_hex.specs.Areas.{is_pic, flash_of};
 ghost use Rattle.intel_hex.specs.Record.{line_of, closing, bytes_of};
 ghost use Rattle.intel_hex.specs.Text.{word_bytes, data_lines, record_count, upper_line, config_line, hex_text};
@@ -68,7 +69,7 @@ fn push_config(
 
 /// Appends the records of words from address 0 on.
 fn push_words(alloc: Global, text: &mut Vec<u8>, words: &[u16]) -> Result<(), AllocError>
-    requires { length words.now ≤ 8192 }
+    requires { length words.now ≤ FLASH_MOST }
     ensures { OnOk result (text.new.items ≡ text.old.items ++ data_lines (record_count (length words.now)) 0 words.now) }
 {
     let mut rest = words;

@@ -1,6 +1,7 @@
 -- What the rules and the needs mean.
 pub mod Assigned
 pub mod ChipRules
+pub mod Formatted
 pub mod Kinds
 pub mod Limits
 pub mod Needs

@@ -19,6 +19,7 @@ use Rattle.ladder_tree.specs.declared.project.Node.TheOpen.{Node-F}
 use Rattle.ladder_tree.specs.declared.project.Node.TheFolds.{fold-Node}
 use Rattle.ladder_tree.specs.declared.project.Project.{Project}
 use Rattle.ladder_tree.specs.declared.project.Rung.{Rung}
+use Rattle.ladder_rules.specs.Formatted.{field_of, has_field}
 use Rattle.ladder_rules.specs.Kinds.{is_pwm, is_persist, is_uart, is_adc}
 use Rattle.ladder_rules.specs.Limits.{extent}
 use Rattle.ladder_rules.specs.declared.limits.TheConstants.{F628_BOOT, F877_BOOT, MEGA16_BOOT, TOF_BOOT}
@@ -36,8 +37,7 @@ math_row Sub = cost.AddSub
 math_row Mul = cost.Mul
 math_row Div = cost.Div
 
--- An element's row in the table of costs. A placeholder and the two elements that are not built have no row of their own,
--- and no code.
+-- An element's row in the table of costs. A placeholder has none of its own, and no code.
 abbrev pub row_of_element : LeafKind → CostKind
 row_of_element (Contacts name neg) = cost.Contacts
 row_of_element (Coil name mode) = cost.Coil
@@ -61,11 +61,11 @@ row_of_element (SetPwm name hz) = cost.SetPwm
 row_of_element (Recv name) = cost.Uart
 row_of_element (Send name) = cost.Uart
 row_of_element (Persist name) = cost.Persist
-row_of_element (Linear dest index points) = cost.Still
-row_of_element (Formatted name text) = cost.Still
+row_of_element (Linear dest index points) = cost.Linear
+row_of_element (Formatted name text) = cost.Formatted
 
--- how often the growing part of words and cycles counts: for each place of a shift register after the first, and for each
--- value of a table
+-- how often the growing part of words and cycles counts: for each place of a shift register after the first, for each value of a
+-- table and each point, and for each byte of a formatted string
 abbrev pub steps : LeafKind → ℕ
 steps (Shift name places) = places - 1
 steps k = extent k
@@ -76,11 +76,25 @@ fixed Words t k = (cost_of t k).words
 fixed Cycles t k = (cost_of t k).cycles
 fixed Ops t k = (cost_of t k).ops
 
--- what counts for each place or value
+-- what counts for each place, value, point or byte
+abbrev pub each : Column → Target → CostKind → ℕ
+each Words t k = (cost_of t k).words_each
+each Cycles t k = (cost_of t k).cycles_each
+each Ops t k = (cost_of t k).ops_each
+
+-- how often it counts
+abbrev pub times : Column → LeafKind → ℕ
+times Words k = steps k
+times Cycles k = steps k
+times Ops k = extent k
+
+-- the bytes of a formatted string's field, which have a row of their own
+abbrev pub field_bytes : LeafKind → ℕ
+field_bytes (Formatted name text) = (field_of text).given
+field_bytes _ = 0
+
 abbrev pub growing : Column → Target → LeafKind → ℕ
-growing Words t k = (cost_of t (row_of_element k)).words_each * steps k
-growing Cycles t k = (cost_of t (row_of_element k)).cycles_each * steps k
-growing Ops t k = (cost_of t (row_of_element k)).ops_each * extent k
+growing c t k = each c t (row_of_element k) * times c k + each c t cost.FormattedField * field_bytes k
 
 abbrev pub element_cost : Column → Target → LeafKind → ℕ
 element_cost c t k = fixed c t (row_of_element k) + growing c t k
@@ -107,10 +121,14 @@ total c t gs = fixed c t cost.Base + rungs_cost c t gs
 
 abbrev pub has_mul : LeafKind → Bool
 has_mul (Math Mul dest a b) = true
+has_mul (Linear dest index points) = true
+has_mul (Formatted name text) = has_field text
 has_mul k = is_pwm k
 
 abbrev pub has_div : LeafKind → Bool
 has_div (Math Div dest a b) = true
+has_div (Linear dest index points) = true
+has_div (Formatted name text) = has_field text
 has_div k = is_pwm k
 
 -- which elements make a feature's words count, once for all of them

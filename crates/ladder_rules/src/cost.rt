@@ -2,8 +2,10 @@
 
 ghost use Rattle.std.specs.Prelude.{◌≡◌, ◌*◌, ◌^◌, ◌<◌, length};
 ghost use Rattle.ladder_rules.specs.Limits.{extent};
-ghost use Rattle.ladder_rules.specs.Needs.{timer_row, math_row, row_of_element, steps, fixed, growing, element_cost, node_cost, nodes_cost, rungs_cost, total};
+ghost use Rattle.ladder_rules.specs.Needs.{timer_row, math_row, row_of_element, steps, fixed, each, times, field_bytes, growing, element_cost, node_cost, nodes_cost, rungs_cost, total};
 
+use crate::formatted;
+use crate::formatted::sent_length;
 use chip_tables::{CostKind, Target, cost};
 use ladder_tree::element::{LeafKind, MathHow, TimerHow};
 use ladder_tree::project::{Node, Rung};
@@ -31,20 +33,42 @@ pub fn fixed(column: Column, target: Target, row: CostKind) -> u32
     }
 }
 
-/// What counts for each place or value of an element.
+/// What counts for each place, value, point or byte.
+fn each(column: Column, target: Target, row: CostKind) -> u32
+    ensures { result ≡ each column target row }
+{
+    let cost = cost(target, row);
+    match column {
+        Column::Words => cost.words_each,
+        Column::Cycles => cost.cycles_each,
+        Column::Ops => cost.ops_each,
+    }
+}
+
+/// How often it counts.
+fn times(column: Column, kind: &LeafKind) -> usize
+    ensures { result ≡ times column kind.now }
+{
+    match column {
+        Column::Words | Column::Cycles => steps(kind),
+        Column::Ops => extent(kind),
+    }
+}
+
+/// What counts for the places, values, points or bytes of an element, and for its field.
 fn growing(column: Column, target: Target, kind: &LeafKind) -> u32
     requires { growing column target kind.now < 2 ^ 32 }
     ensures { result ≡ growing column target kind.now }
 {
-    let cost = cost(target, row_of_element(kind));
-    match column {
-        Column::Words => times(cost.words_each, steps(kind)),
-        Column::Cycles => times(cost.cycles_each, steps(kind)),
-        Column::Ops => times(cost.ops_each, extent(kind)),
-    }
+    let row = row_of_element(kind);
+    product(each(column, target, row), times(column, kind))
+        + product(
+            each(column, target, CostKind::FormattedField),
+            field_bytes(kind),
+        )
 }
 
-fn times(each: u32, count: usize) -> u32
+fn product(each: u32, count: usize) -> u32
     requires { each * count < 2 ^ 32 }
     ensures { result ≡ each * count }
 {
@@ -92,7 +116,7 @@ fn node_cost(column: Column, target: Target, node: &Node) -> u32
             let once = fixed(column, target, CostKind::Parallel);
             let each = fixed(column, target, CostKind::Branch);
             let inside = nodes_cost(column, target, branches.as_slice());
-            once + (times(each, branches.len()) + inside)
+            once + (product(each, branches.len()) + inside)
         }
     }
 }
@@ -119,11 +143,9 @@ fn row_of_element(kind: &LeafKind) -> CostKind
         LeafKind::SetPwm { .. } => CostKind::SetPwm,
         LeafKind::Recv { .. } | LeafKind::Send { .. } => CostKind::Uart,
         LeafKind::Persist { .. } => CostKind::Persist,
-        LeafKind::Short
-        | LeafKind::Placeholder
-        | LeafKind::Comment { .. }
-        | LeafKind::Linear { .. }
-        | LeafKind::Formatted { .. } => CostKind::Still,
+        LeafKind::Linear { .. } => CostKind::Linear,
+        LeafKind::Formatted { .. } => CostKind::Formatted,
+        LeafKind::Short | LeafKind::Placeholder | LeafKind::Comment { .. } => CostKind::Still,
     }
 }
 
@@ -146,13 +168,25 @@ fn math_row(how: MathHow) -> CostKind
     }
 }
 
-/// How many places or values an element has.
+/// How many places, values or points an element has, or bytes it sends.
 fn extent(kind: &LeafKind) -> usize
     ensures { result ≡ extent kind.now }
 {
     match kind {
         LeafKind::Shift { places, .. } => usize::from(*places),
         LeafKind::Table { values, .. } => values.len(),
+        LeafKind::Linear { points, .. } => points.len() / 2,
+        LeafKind::Formatted { text, .. } => sent_length(text.as_slice()),
+        _ => 0,
+    }
+}
+
+/// How many bytes are sent for the field of a formatted string.
+fn field_bytes(kind: &LeafKind) -> usize
+    ensures { result ≡ field_bytes kind.now }
+{
+    match kind {
+        LeafKind::Formatted { text, .. } => formatted::field_bytes(text.as_slice()),
         _ => 0,
     }
 }

@@ -4,6 +4,7 @@
 mod assigned;
 mod chip_rule;
 mod cost;
+mod formatted;
 mod kinds;
 pub mod laws;
 mod legal;

@@ -6,6 +6,7 @@ ghost use Rattle.ladder_tree.specs.Leaves.{all_leaves};
 ghost use Rattle.ladder_rules.specs.Needs.{uses, has_mul, has_div, is_tof, tofs_in};
 ghost use Rattle.ladder_rules.specs.Sought.{seeks_any, counts_tofs};
 
+use crate::formatted::field_bytes;
 use crate::kinds::{is_adc, is_persist, is_pwm, is_uart};
 use chip_tables::CostKind;
 use ladder_tree::element::{Leaf, LeafKind, MathHow, TimerHow};
@@ -32,7 +33,8 @@ fn has_mul(kind: &LeafKind) -> bool
 {
     match kind {
         LeafKind::Math { how, .. } => matches!(how, MathHow::Mul),
-        LeafKind::SetPwm { .. } => true,
+        LeafKind::SetPwm { .. } | LeafKind::Linear { .. } => true,
+        LeafKind::Formatted { text, .. } => field_bytes(text.as_slice()) > 0,
         _ => false,
     }
 }
@@ -42,7 +44,8 @@ fn has_div(kind: &LeafKind) -> bool
 {
     match kind {
         LeafKind::Math { how, .. } => matches!(how, MathHow::Div),
-        LeafKind::SetPwm { .. } => true,
+        LeafKind::SetPwm { .. } | LeafKind::Linear { .. } => true,
+        LeafKind::Formatted { text, .. } => field_bytes(text.as_slice()) > 0,
         _ => false,
     }
 }

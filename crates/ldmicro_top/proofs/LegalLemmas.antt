@@ -111,6 +111,8 @@ short_kind : (k : LeafKind) → is_read_kind k ≡ true → extent k ≤ 60
 short_kind (kind.Shift name places) h = let a = both_true (is_name name) _ h in let b = both_true (nat_le 1 places) _ a.1 in small places b.1
 short_kind (kind.Table dest index as_text values) h =
     let a = both_true (is_name dest) _ h in let b = both_true _ (nat_le (length values) 60) a.1 in small (length values) b.1
+short_kind (kind.Linear dest index points) h = absurd cc
+short_kind (kind.Formatted name text) h = absurd cc
 short_kind _ h = omega arith
 
 all_short : (ls : List leaf.Leaf) → list_all (λ l. is_read_kind l.kind) ls ≡ true → All IsShort ls
