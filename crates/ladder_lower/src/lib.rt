@@ -3,12 +3,12 @@
 
 mod devices;
 mod element;
-mod layout;
+pub mod layout;
 mod node;
 mod numbers;
-mod places;
+pub mod places;
 mod power;
 pub mod program;
 mod push;
-mod starts;
+pub mod starts;
 mod survey;

@@ -95,7 +95,7 @@ is_built Interp word = is_ladder_word word
 is_built F628 word = false
 is_built F877 word = false
 is_built Mega16 word = false
-is_built AnsiC word = false
+is_built AnsiC word = is_ladder_word word
 
 -- the targets that projects are compiled for
 abbrev pub is_target_built : Target → Bool
@@ -103,4 +103,4 @@ is_target_built Interp = true
 is_target_built F628 = false
 is_target_built F877 = false
 is_target_built Mega16 = false
-is_target_built AnsiC = false
+is_target_built AnsiC = true

@@ -152,8 +152,8 @@ pub fn is_built(target: Target, word: Word) -> bool
     ensures { result ≡ is_built target word }
 {
     match target {
-        Target::Interp => is_ladder_word(word),
-        Target::F628 | Target::F877 | Target::Mega16 | Target::AnsiC => false,
+        Target::Interp | Target::AnsiC => is_ladder_word(word),
+        Target::F628 | Target::F877 | Target::Mega16 => false,
     }
 }
 
@@ -162,7 +162,7 @@ pub fn is_target_built(target: Target) -> bool
     ensures { result ≡ is_target_built target }
 {
     match target {
-        Target::Interp => true,
-        Target::F628 | Target::F877 | Target::Mega16 | Target::AnsiC => false,
+        Target::Interp | Target::AnsiC => true,
+        Target::F628 | Target::F877 | Target::Mega16 => false,
     }
 }

@@ -58,7 +58,7 @@ word_built Interp w h g = ap not g
 word_built F628 w h g = absurd cc
 word_built F877 w h g = absurd cc
 word_built Mega16 w h g = absurd cc
-word_built AnsiC w h g = absurd cc
+word_built AnsiC w h g = ap not g
 
 said_by_word : (line token : List ℕ) (rest : List (List ℕ)) (w : Word) (k : LeafKind) → tokens line ≡ token ∷ rest → alone token ≡ None
     → word_of token ≡ Some w → is_ladder_word w ≡ true → element_of w rest line ≡ Is k → ElementSaid k line

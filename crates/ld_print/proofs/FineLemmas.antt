@@ -297,7 +297,7 @@ word_built (Some Interp) w h = not-false (is_ladder_word w) h
 word_built (Some F628) w h = absurd cc
 word_built (Some F877) w h = absurd cc
 word_built (Some Mega16) w h = absurd cc
-word_built (Some AnsiC) w h = absurd cc
+word_built (Some AnsiC) w h = not-false (is_ladder_word w) h
 
 -- settings and pins
 

@@ -15,7 +15,8 @@ use Rattle.texts.specs.declared.limits.TheConstants.{LINE_BYTES}
 use Rattle.ld_line.specs.Header.{setting}
 use Rattle.ld_line.specs.Targets.{target_text}
 use Rattle.ld_line.specs.Tokens.{tokens}
-use Rattle.ld_line.specs.Words.{is_target_built}
+use Rattle.ld_line.specs.Words.{word_of, is_target_built}
+use Rattle.ld_line.specs.declared.word.Word.{Word}
 use Rattle.ld_line.specs.declared.rungs.Circuit.TheVariants as circuit
 use Rattle.ld_line.specs.declared.said.Said.TheVariants.{Is}
 use Rattle.ld_line.specs.declared.header.HeaderLine.{HeaderLine}
@@ -29,7 +30,7 @@ use Rattle.ld_text.specs.declared.place.Site.{Site}
 use Rattle.ld_text.specs.declared.place.Site.TheVariants as site
 use Rattle.ld_text.specs.Lines.{Line, lines_of}
 use Rattle.ld_text.specs.Place.{Place, said_in, behind_form, behind_all, start}
-use Rattle.ld_text.specs.Faults.{begins_unbuilt, names_unbuilt, is_chipless, first_fault, or_else, end_fault}
+use Rattle.ld_text.specs.Faults.{has_unbuilt_word, begins_unbuilt, names_unbuilt, is_chipless, first_fault, or_else, end_fault}
 use Rattle.ld_text.specs.Spelling.{Chip, Cycle, Crystal, Baud, PinSection, pin_forms, spelled, spelled_project}
 use Rattle.ld_text.specs.Text.{IsReadAs, said_by}
 use Rattle.ld_print.specs.Printed as print
@@ -101,12 +102,18 @@ tail_goes t built gs k b n few f =
 
 -- the pins
 
-built_interp : (t : Target) → is_target_built t ≡ true → Some t ≡ Some Interp
-built_interp Interp h = refl
-built_interp F628 h = absurd cc
-built_interp F877 h = absurd cc
-built_interp Mega16 h = absurd cc
-built_interp AnsiC h = absurd cc
+-- each target that is built has the words of the interpreter
+built_alike : (t : Target) → is_target_built t ≡ true → (ts : List (List ℕ)) → begins_unbuilt (Some t) ts ≡ begins_unbuilt (Some Interp) ts
+built_alike t h [] = refl
+built_alike t h (token ∷ ts) = by t h (word_of token)
+  where
+    by : (t : Target) → is_target_built t ≡ true → (o : Option Word) → has_unbuilt_word (Some t) o ≡ has_unbuilt_word (Some Interp) o
+    by t h None = refl
+    by Interp h (Some w) = refl
+    by F628 h (Some w) = absurd cc
+    by F877 h (Some w) = absurd cc
+    by Mega16 h (Some w) = absurd cc
+    by AnsiC h (Some w) = refl
 
 over : (n : ℕ) → n < PIN_LINES → nat_le PIN_LINES n ≡ false
 over n h = grind (arith, nat_tests)
@@ -128,7 +135,7 @@ pins_go t built gs all few f (l ∷ ls) k b n e room h =
           (record {
             said = s.said n;
             short = omega (arith, s.short);
-            free = λ x. ap (λ o. begins_unbuilt o (tokens (print.pin_line l))) (built_interp t built) ∙ s.free;
+            free = λ x. built_alike t built (tokens (print.pin_line l)) ∙ s.free;
             built = refl;
             chip = refl;
             shallow = refl;

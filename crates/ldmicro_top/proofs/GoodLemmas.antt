@@ -8,14 +8,13 @@ use Rattle.ldmicro_top.specs.Command.{Compile, Simulate, Replay}
 use Rattle.ldmicro_top.specs.Expected.{Expected, HeldAnswers, ProjectAnswers, TraceAnswers, CompileAnswers, RunAnswers, SimulateAnswers, ReplayAnswers, answer_of_code}
 use Rattle.ldmicro_top.specs.Ran.{IsCompiled, IsSimulated, IsReplayed}
 use Rattle.ldmicro_top.proofs.JudgeLemmas.{OfFile, project_on, project_more, trace_on, held_text}
-use Rattle.ldmicro_top.proofs.TargetLemmas.{any_room, carries_interp, replays_interp, file_on}
+use Rattle.ldmicro_top.proofs.TargetLemmas.{carried_room, replays_interp, file_on}
 
 -- what is compiled was expected to be
 pub compiled_good : (source dest : List ℕ) (held : Held) (code printed : List ℕ) → IsCompiled source held code printed → Expected (Compile source dest) held Ok
 compiled_good source dest held code printed c =
     let e = c.emitted in
-    let interp = carries_interp c.project code e.cycles e.boot e.carries in
-    project_on CompileAnswers held source c.project Ok c.source (ap answer_of_code (sym (any_room c.project interp.0)))
+    project_on CompileAnswers held source c.project Ok c.source (ap answer_of_code (sym (carried_room c.project code e.cycles e.boot e.carries)))
 
 -- and what is simulated
 pub simulated_good : (source trace : List ℕ) (held : Held) (printed : List ℕ) → IsSimulated source trace held printed → Expected (Simulate source trace) held Ok

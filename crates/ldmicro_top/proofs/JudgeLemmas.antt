@@ -23,7 +23,8 @@ use Rattle.ldmicro_top.specs.declared.status.InputFault.TheVariants as input
 use Rattle.ldmicro_top.specs.declared.status.Status.{Status}
 use Rattle.ldmicro_top.specs.declared.status.Status.TheVariants as status
 use Rattle.ldmicro_top.specs.Code.{IsCode, IsCodeRefusedAt}
-use Rattle.ldmicro_top.specs.Expected.{HeldAnswers, ProjectAnswers, CodeAnswers, FileAnswers, TraceAnswers, AnswersOf, is_fault, is_end}
+use Rattle.ldmicro_top.specs.Expected.{HeldAnswers, ProjectAnswers, CodeAnswers, NoMachineAnswers, FileAnswers, TraceAnswers, AnswersOf, is_fault, is_end}
+use Rattle.ldmicro_top.specs.HasMachine.{has_machine}
 use Rattle.ldmicro_top.specs.Judged.{IsJudged}
 use Rattle.ldmicro_top.specs.Replayed.{SameNames, replayed}
 use Rattle.ldmicro_top.specs.Replays.{Replays}
@@ -32,7 +33,7 @@ use Rattle.ldmicro_top.specs.Steps.{OnlyReads, Declined, status_of_source}
 use Rattle.ldmicro_top.specs.Verdict.{verdict}
 use Rattle.ldmicro_top.proofs.CutLemmas.{Found, verdict_whole, code_whole, code_refused_whole}
 use Rattle.ldmicro_top.proofs.RoomLemmas.{few}
-use Rattle.ldmicro_top.proofs.TargetLemmas.{read_target, replays_on, file_on}
+use Rattle.ldmicro_top.proofs.TargetLemmas.{machine_only, text_only, read_target, replays_on, file_on, file_c}
 
 -- two steps that only read are one
 pub both_read : (told : Bool) (a b c : Counts) (h k l : Held) → OnlyReads told a b h k → OnlyReads told b c k l → OnlyReads told a c h l
@@ -140,9 +141,9 @@ pub project_more : (go_on : Project → Status → Type 0) (o : Option (List ℕ
     → HeldAnswers (ProjectAnswers go_on) o s
 project_more go_on o s h = held_more (ProjectAnswers NoGo) (ProjectAnswers go_on) o s (refused_more go_on s) h
 
--- a project that is held is for the interpreter
-pub held_target : (held : Held) (name : List ℕ) (p : Project) → HoldsProject held name p → p.target ≡ Interp
-held_target held name p h = read_target (judged h.text) p h.accepted.0
+-- a project that is held, for a target with a machine, is for the interpreter
+pub held_target : (held : Held) (name : List ℕ) (p : Project) → has_machine p.target ≡ true → HoldsProject held name p → p.target ≡ Interp
+held_target held name p m h = machine_only p.target (read_target (judged h.text) p h.accepted.0) m
 
 pub project_on : (go_on : Project → Status → Type 0) (held : Held) (name : List ℕ) (p : Project) (s : Status) → HoldsProject held name p → go_on p s
     → HeldAnswers (ProjectAnswers go_on) (held name) s
@@ -228,6 +229,12 @@ pub file_more : (p : Project) (go_on : List ℕ → Status → Type 0) (o : Opti
 file_more p go_on o s e h =
     held_more (CodeAnswers (names_of p.rungs) (λ t. ⊥)) (OfFile p go_on) o s
     (λ text k. file_on p (go_on text) text s e (differs_more (names_of p.rungs) (go_on text) s text k)) h
+
+-- a file that no machine runs is not asked for what it says
+pub file_declined : (p : Project) (go_on : List ℕ → Status → Type 0) (o : Option (List ℕ)) (s : Status) → has_machine p.target ≡ false
+    → HeldAnswers NoMachineAnswers o s → HeldAnswers (OfFile p go_on) o s
+file_declined p go_on o s m h =
+    held_more NoMachineAnswers (OfFile p go_on) o s (λ text k. file_c p (go_on text) text s (text_only p.target m) k) h
 
 pub file_taken : (p : Project) (go_on : List ℕ → Status → Type 0) (held : Held) (name : List ℕ) (program : IntProgram) (s : Status) → p.target ≡ Interp
     → (h : HoldsCode held name (names_of p.rungs) program) → go_on h.text s

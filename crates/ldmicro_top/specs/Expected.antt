@@ -62,13 +62,17 @@ CodeAnswers n go_on text answer =
     × ((SameNames n program.names × go_on answer) ⊎ ((SameNames n program.names → ⊥) × (answer ≡ status.BadInput (input.OtherProject program.code_line)))))
     ⊎ ((line : ℕ) × IsCodeRefusedAt text line × (answer ≡ status.BadInput (input.Interp line)))
 
+-- a file that no machine runs
+abbrev pub NoMachineAnswers : List ℕ → Status → Type 0
+NoMachineAnswers file answer = answer ≡ status.BadInput input.NoMachine
+
 -- what the file that is run answers, by the project's target; of a target that is not built nothing is
 abbrev pub FileAnswersOn : Target → Names → (Status → Type 0) → List ℕ → Status → Type 0
 FileAnswersOn F628 n go_on file answer = ⊥
 FileAnswersOn F877 n go_on file answer = ⊥
 FileAnswersOn Mega16 n go_on file answer = ⊥
 FileAnswersOn Interp n go_on file answer = CodeAnswers n go_on file answer
-FileAnswersOn AnsiC n go_on file answer = ⊥
+FileAnswersOn AnsiC n go_on file answer = NoMachineAnswers file answer
 
 abbrev pub FileAnswers : Project → (Status → Type 0) → List ℕ → Status → Type 0
 FileAnswers p go_on file answer = FileAnswersOn p.target (names_of p.rungs) go_on file answer

@@ -1,6 +1,7 @@
 pub mod StatusLine
 pub mod Verdict
 pub mod Report
+pub mod HasMachine
 pub mod Carries
 pub mod Code
 pub mod Replays

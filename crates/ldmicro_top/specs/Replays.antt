@@ -19,7 +19,7 @@ pub record ReplaysInterp (p : Project) (code : List ℕ) (trace : Trace) (printe
   pub lines : printed ≡ replayed p said.program trace
   pub ends : ending ≡ Ok
 
--- the lines of the finished cycles, and the end; on a target that is not built nothing runs
+-- the lines of the finished cycles, and the end; on a target that is not built, or has no machine, nothing runs
 abbrev pub ReplaysOn : Target → Project → List ℕ → Trace → List ℕ → Status → Type 0
 ReplaysOn F628 p code trace printed ending = ⊥
 ReplaysOn F877 p code trace printed ending = ⊥

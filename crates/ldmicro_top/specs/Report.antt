@@ -17,6 +17,12 @@ report n operations =
     ++ (codes " of 8192\neeprom " ++ (decimal (eeprom_need (kept_of n))
     ++ (codes " of 512\ncycles " ++ (decimal operations ++ codes "\n")))))))
 
+-- the report of a C text, whose cycles depend on its compiler
+abbrev pub c_report : Names → List ℕ
+c_report n =
+    codes "target ANSI-C\nram " ++ (decimal (ram_need (kept_of n))
+    ++ (codes " of 8192\neeprom " ++ (decimal (eeprom_need (kept_of n)) ++ codes " of 512\n")))
+
 -- What is printed of a target's code that takes at most so many cycles in a cycle of the ladder, and so many before the first. Of a target that is not
 -- built nothing is.
 abbrev pub ReportsOn : Target → Project → ℕ → ℕ → List ℕ → Type 0
@@ -24,7 +30,7 @@ ReportsOn F628 p cycles boot printed = ⊥
 ReportsOn F877 p cycles boot printed = ⊥
 ReportsOn Mega16 p cycles boot printed = ⊥
 ReportsOn Interp p cycles boot printed = printed ≡ report (names_of p.rungs) cycles
-ReportsOn AnsiC p cycles boot printed = ⊥
+ReportsOn AnsiC p cycles boot printed = printed ≡ c_report (names_of p.rungs)
 
 abbrev pub Reports : Project → ℕ → ℕ → List ℕ → Type 0
 Reports p cycles boot printed = ReportsOn p.target p cycles boot printed

@@ -63,6 +63,7 @@ place_text (at.Need need have) = codes "need " ++ (decimal need ++ (codes " have
 -- what is wrong with a file, and where
 abbrev pub input_text : InputFault → List ℕ
 input_text (input.Interp line) = codes "file line " ++ decimal line
+input_text input.NoMachine = codes "file no machine"
 input_text (input.OtherProject line) = codes "file line " ++ (decimal line ++ codes " other project")
 input_text (input.Trace line) = codes "trace line " ++ decimal line
 

@@ -1,6 +1,6 @@
 //! Laws of what a run answers, each the contract of a function that does nothing.
 
-ghost use Rattle.std.specs.Prelude.{◌≡◌, ℕ, List};
+ghost use Rattle.std.specs.Prelude.{◌≡◌, ℕ, true, List};
 ghost use Rattle.ld_base.specs.Bytes.{Held};
 ghost use Rattle.ladder_trace.specs.Simulated.{simulated};
 ghost use Rattle.ladder_trace.specs.declared.trace.Trace.{Trace};
@@ -10,6 +10,7 @@ ghost use Rattle.ldmicro_top.specs.declared.status.Status.TheVariants.{Ok};
 ghost use Rattle.ldmicro_top.specs.Carries.{Carries};
 ghost use Rattle.ldmicro_top.specs.Command.{Command};
 ghost use Rattle.ldmicro_top.specs.Expected.{Expected};
+ghost use Rattle.ldmicro_top.specs.HasMachine.{has_machine};
 ghost use Rattle.ldmicro_top.specs.Replays.{Replays};
 
 /// Of the words and of what the names hold, one answer at most is expected.
@@ -22,10 +23,11 @@ pub fn an_answer_is_expected()
     ensures { (command : Command) (held : Held) → (answer : Status) × Expected command held answer }
 {}
 
-/// Bytes that carry a project run over every trace, print the lines of the ladder's meaning, and nothing else: after Ok of `/c`, `/r` prints what
+/// On a target with a machine bytes that carry a project run over every trace, print the lines of the ladder's meaning, and nothing else: after Ok of `/c`, `/r` prints what
 /// `/s` prints, and ends with Ok.
 pub fn replay_agrees()
-    ensures runs { (p : Project) (code : List ℕ) (cycles boot : ℕ) (trace : Trace) → Carries p code cycles boot → Replays p code trace (simulated p trace) Ok }
+    ensures runs { (p : Project) (code : List ℕ) (cycles boot : ℕ) (trace : Trace) → has_machine p.target ≡ true → Carries p code cycles boot
+        → Replays p code trace (simulated p trace) Ok }
     ensures only { (p : Project) (code : List ℕ) (cycles boot : ℕ) (trace : Trace) (printed : List ℕ) (ending : Status)
         → Carries p code cycles boot → Replays p code trace printed ending → (printed ≡ simulated p trace) × (ending ≡ Ok) }
 {}

@@ -6,6 +6,7 @@ mod duty;
 pub mod judge;
 mod kept;
 pub mod laws;
+mod machine;
 pub mod report;
 pub mod run;
 pub mod sources;

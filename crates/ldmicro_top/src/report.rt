@@ -3,7 +3,7 @@
 ghost use Rattle.std.specs.Prelude.{◌≡◌, IfOk};
 ghost use Rattle.std.specs.String.{string_bytes};
 ghost use Rattle.ladder_lower.specs.Outcome.{IsSmall};
-ghost use Rattle.ldmicro_top.specs.Report.{report};
+ghost use Rattle.ldmicro_top.specs.Report.{report, c_report};
 
 use crate::kept::kept_of;
 use ladder_tree::names::Names;
@@ -21,4 +21,15 @@ pub fn report(alloc: Global, names: &Names, operations: usize) -> Result<String,
     format!(in alloc;
         "target Interpretable\noperations {operations}\nram {ram} of 8192\neeprom {eeprom} of 512\ncycles {operations}\n"
     )
+}
+
+/// The report for C: what the text keeps, at 16 bits a variable and one a bit.
+pub fn c_report(alloc: Global, names: &Names) -> Result<String, AllocError>
+    requires { IsSmall names.now }
+    ensures { IfOk result (λ text. string_bytes text ≡ c_report names.now) }
+{
+    let kept = kept_of(names);
+    let ram = kept.ram_need();
+    let eeprom = kept.eeprom_need();
+    format!(in alloc; "target ANSI-C\nram {ram} of 8192\neeprom {eeprom} of 512\n")
 }

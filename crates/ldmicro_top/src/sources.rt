@@ -4,7 +4,7 @@ ghost use Rattle.std.specs.Prelude.{◌≡◌, true, IfOk, IfErr, Decides};
 ghost use Rattle.ladder_trace.specs.Trace.{IsTraceOf};
 ghost use Rattle.trace_run.specs.Run.{IsProgramOf};
 ghost use Rattle.interp_code.specs.Machine.{IsRunnable};
-ghost use Rattle.ldmicro_top.specs.Expected.{HeldAnswers, ProjectAnswers, CodeAnswers, TraceAnswers, Expected};
+ghost use Rattle.ldmicro_top.specs.Expected.{HeldAnswers, ProjectAnswers, CodeAnswers, NoMachineAnswers, TraceAnswers, Expected};
 ghost use Rattle.ldmicro_top.specs.Command.{Simulate, Replay};
 ghost use Rattle.ldmicro_top.specs.Ran.{IsCompiled, IsSimulated, IsReplayed};
 ghost use Rattle.ldmicro_top.specs.Replayed.{SameNames};
@@ -15,6 +15,7 @@ ghost use Rattle.std.specs.String.{string_bytes};
 
 use crate::compile::{Compiled, compile_legal};
 use crate::judge::judge;
+use crate::machine::has_machine;
 use crate::status::{InputFault, Status};
 use crate::traced::{TraceRun, replay, simulation};
 use interp_code::program::InterpProgram;
@@ -152,6 +153,17 @@ pub fn take_code<F: Files>(
     }
 }
 
+/// Reads a file that no machine runs. Answers the status that says so.
+fn decline_file<F: Files>(alloc: Global, files: &mut F, name: &str) -> Status
+    ensures only { OnlyReads F.tells (F.counts files.old) (F.counts files.new) (F.held files.old) (F.held files.new) }
+    ensures declined { Declined F.tells (HeldAnswers NoMachineAnswers (F.held files.old name.now)) (F.counts files.old) (F.counts files.new) result }
+{
+    match read_file(alloc, files, name, CODE_BYTES) {
+        Ok(_) => Status::BadInput(InputFault::NoMachine),
+        Err(fault) => unread(fault),
+    }
+}
+
 /// What a source compiles to.
 pub fn take_compiled<F: Files>(
     alloc: Global,
@@ -207,6 +219,9 @@ pub fn take_replay<F: Files>(
     ensures declined { IfErr result (Declined F.tells (Expected (Replay source.now file.now trace.now) (F.held files.old)) (F.counts files.old) (F.counts files.new)) }
 {
     let legal = take_project(alloc, files, source)?;
+    if !has_machine(legal.project().target) {
+        return Err(decline_file(alloc, files, file));
+    }
     let said = take_code(alloc, files, file, legal.names())?;
     let trace = take_trace(alloc, files, trace, legal.names())?;
     match replay(alloc, legal, said, trace) {

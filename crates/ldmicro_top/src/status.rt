@@ -37,6 +37,8 @@ pub enum Status {
 pub enum InputFault {
     /// The interpretable text is refused at a line.
     Interp { line: u32 },
+    /// The target has no machine that runs the file.
+    NoMachine,
     /// The interpretable text has other names than the project. The line is that of its `code`.
     OtherProject { line: u32 },
     /// The trace is refused at a line.
@@ -52,6 +54,7 @@ impl fmt::Display for InputFault {
     fn fmt<W: fmt::Write>(&self, f: &mut fmt::Formatter<W>) -> fmt::Result {
         match self {
             InputFault::Interp { line } => write!(f, "file line {line}"),
+            InputFault::NoMachine => f.write_str("file no machine"),
             InputFault::OtherProject { line } => write!(f, "file line {line} other project"),
             InputFault::Trace { line } => write!(f, "trace line {line}"),
         }

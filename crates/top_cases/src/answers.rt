@@ -84,6 +84,13 @@ impl Runs {
     }
 }
 
+/// The lines of a file.
+fn lines(alloc: Global, bytes: &[u8]) -> Result<String, AllocError> {
+    let mut text = String::new(alloc);
+    push_lines(&mut text, bytes)?;
+    Ok(text)
+}
+
 impl Answers for Runs {
     fn answer(&mut self, alloc: Global, command: &Command<'_>) -> Result<String, AllocError> {
         let text = command.text.as_slice();
@@ -99,6 +106,7 @@ impl Answers for Runs {
             "show" => return self.shown(alloc, text),
             "fail" => return self.failing(alloc, argument),
             "run" => return self.run(alloc, argument),
+            "text" => return lines(alloc, self.held.get(argument)),
             "needs" => return needs(alloc, self.held.get("a"), argument),
             "calls" => return calls(alloc, argument),
             "whole" => return file(alloc, argument),

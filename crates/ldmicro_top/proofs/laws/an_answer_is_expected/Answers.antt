@@ -9,9 +9,10 @@ use Rattle.ladder_tree.specs.Names.{names_of}
 use Rattle.ladder_tree.specs.declared.fault.ProjectFault.{ProjectFault}
 use Rattle.ladder_tree.specs.declared.names.Names.{Names}
 use Rattle.ladder_tree.specs.declared.project.Project.{Project}
-use Rattle.chip_tables.specs.declared.target.Target.TheVariants.{Interp}
+use Rattle.chip_tables.specs.declared.target.Target.TheVariants.{Interp, AnsiC}
 use Rattle.ladder_trace.specs.Trace as trace
 use Rattle.ladder_trace.specs.declared.trace.Trace.{Trace}
+use Rattle.ld_line.specs.Words.{is_target_built}
 use Rattle.ld_text.specs.Text.{IsReadAs, text_fault, judged}
 use Rattle.ld_text.proofs.VerdictLemmas.{has_project}
 use Rattle.interp_code.specs.declared.program.InterpProgram.{InterpProgram}
@@ -27,8 +28,9 @@ use Rattle.ldmicro_top.specs.declared.status.Status.TheVariants as status
 use Rattle.ldmicro_top.specs.Command.{Command, Compile, Simulate, Replay, Other}
 use Rattle.ldmicro_top.specs.Code.{IsCode, IsCodeRefusedAt}
 use Rattle.ldmicro_top.specs.Expected.{ProjectAnswers, CompileAnswers, SimulateAnswers, ReplayAnswers, HeldAnswers, TraceAnswers, AnswersOf, CodeAnswers, RunAnswers, Expected, answer_of_code}
+use Rattle.ldmicro_top.specs.HasMachine.{has_machine}
 use Rattle.ldmicro_top.proofs.JudgeLemmas.{OfFile}
-use Rattle.ldmicro_top.proofs.TargetLemmas.{read_target, replays_on, file_on}
+use Rattle.ldmicro_top.proofs.TargetLemmas.{machine_only, text_only, read_target, replays_on, file_on, file_c}
 use Rattle.ldmicro_top.proofs.laws.an_answer_is_expected.Goals as goal
 
 -- Whether two names lists are the same is known.
@@ -71,13 +73,13 @@ of_held : (go_on : List ℕ → Status → Type 0) → ((text : List ℕ) → Is
 of_held go_on more None = (status.ReadFault, refl)
 of_held go_on more (Some text) = more text
 
-of_verdict : (go_on : Project → Status → Type 0) → ((p : Project) → p.target ≡ Interp → IsAnswered (go_on p)) → (text : List ℕ) (p : Project)
+of_verdict : (go_on : Project → Status → Type 0) → ((p : Project) → is_target_built p.target ≡ true → IsAnswered (go_on p)) → (text : List ℕ) (p : Project)
     → IsReadAs (judged text) p → (o : Option ProjectFault) → verdict p ≡ o
     → IsAnswered (ProjectAnswers go_on text)
 of_verdict go_on more text p read (Some f) e = (status.Refused f, inr (f, inr (p, read, e), refl))
 of_verdict go_on more text p read None e = let on = more p (read_target (judged text) p read) in (on.0, inl (p, (read, e), on.1))
 
-of_project : (go_on : Project → Status → Type 0) → ((p : Project) → p.target ≡ Interp → IsAnswered (go_on p)) → (text : List ℕ)
+of_project : (go_on : Project → Status → Type 0) → ((p : Project) → is_target_built p.target ≡ true → IsAnswered (go_on p)) → (text : List ℕ)
     → IsAnswered (ProjectAnswers go_on text)
 of_project go_on more text = by (text_fault (judged text)) refl
   where
@@ -115,19 +117,32 @@ of_run p e code said text names t =
     let printed = replayed p said.program t in
     (status.Ok, (printed, replays_on p code t printed status.Ok e (record { said = said; text = text; names = names; lines = refl; ends = refl })))
 
-of_simulation : (held : Held) (trace : List ℕ) (p : Project) → p.target ≡ Interp → IsAnswered (SimulateAnswers held trace p)
+of_simulation : (held : Held) (trace : List ℕ) (p : Project) → is_target_built p.target ≡ true → IsAnswered (SimulateAnswers held trace p)
 of_simulation held trace p e =
     let n = names_of p.rungs in
     let go_on : Trace → Status → Type 0 = λ t answer. answer ≡ status.Ok in
     of_held (TraceAnswers n go_on) (of_trace n go_on (λ t. (status.Ok, refl))) (held trace)
 
-of_replay : (held : Held) (file trace : List ℕ) (p : Project) → p.target ≡ Interp → IsAnswered (ReplayAnswers held file trace p)
-of_replay held file trace p e =
+of_machine : (held : Held) (file trace : List ℕ) (p : Project) → p.target ≡ Interp → IsAnswered (ReplayAnswers held file trace p)
+of_machine held file trace p e =
     let n = names_of p.rungs in
     let next : List ℕ → Status → Type 0 = λ code. HeldAnswers (TraceAnswers n (RunAnswers p code)) (held trace) in
     let goes : (code : List ℕ) → Goes n (next code) code = λ code said text names.
     of_held (TraceAnswers n (RunAnswers p code)) (of_trace n (RunAnswers p code) (of_run p e code said text names)) (held trace) in
     of_held (OfFile p next) (λ code. let on = of_code n (next code) code (goes code) in (on.0, file_on p (next code) code on.0 e on.1)) (held file)
+
+of_text : (held : Held) (file trace : List ℕ) (p : Project) → p.target ≡ AnsiC → IsAnswered (ReplayAnswers held file trace p)
+of_text held file trace p e =
+    let next : List ℕ → Status → Type 0 = λ code. HeldAnswers (TraceAnswers (names_of p.rungs) (RunAnswers p code)) (held trace) in
+    let answer = status.BadInput input.NoMachine in
+    of_held (OfFile p next) (λ code. (answer, file_c p (next code) code answer e refl)) (held file)
+
+of_replay : (held : Held) (file trace : List ℕ) (p : Project) → is_target_built p.target ≡ true → IsAnswered (ReplayAnswers held file trace p)
+of_replay held file trace p built = by (has_machine p.target) refl
+  where
+    by : (m : Bool) → has_machine p.target ≡ m → IsAnswered (ReplayAnswers held file trace p)
+    by true e = of_machine held file trace p (machine_only p.target built e)
+    by false e = of_text held file trace p (text_only p.target e)
 
 answered : (command : Command) (held : Held) → IsAnswered (Expected command held)
 answered (Compile source dest) held =

@@ -87,7 +87,7 @@ of_file F628 n go_on one file a b h k = absurd h
 of_file F877 n go_on one file a b h k = absurd h
 of_file Mega16 n go_on one file a b h k = absurd h
 of_file Interp n go_on one file a b h k = of_code n go_on one file a b h k
-of_file AnsiC n go_on one file a b h k = absurd h
+of_file AnsiC n go_on one file a b h k = h ∙ sym k
 
 of_run : (p : Project) (file : List ℕ) (t : Trace) → IsSingle (RunAnswers p file t)
 of_run p file t a b h k = (replays_interp p file t h.0 a h.1).1.ends ∙ sym (replays_interp p file t k.0 b k.1).1.ends

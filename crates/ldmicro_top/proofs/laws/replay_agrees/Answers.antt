@@ -2,12 +2,12 @@ use Rattle.std.proofs.Common.{refl, sym, ◌∙◌}
 use Rattle.ladder_trace.specs.Simulated.{simulated}
 use Rattle.ldmicro_top.specs.declared.status.Status.TheVariants.{Ok}
 use Rattle.ldmicro_top.proofs.SimulatedLemmas.{carried_names, carried_lines}
-use Rattle.ldmicro_top.proofs.TargetLemmas.{carries_interp, replays_interp, replays_on}
+use Rattle.ldmicro_top.proofs.TargetLemmas.{carries_interp, interp_carries, replays_interp, replays_on}
 use Rattle.ldmicro_top.proofs.laws.replay_agrees.Goals as goal
 
 pub returns-clause-runs : goal.returns-clause-runs
-returns-clause-runs c p code cycles boot trace h =
-    let by = carries_interp p code cycles boot h in
+returns-clause-runs c p code cycles boot trace m h =
+    let by = carries_interp p code cycles boot m h in
     let said = by.1.program in
     replays_on p code trace (simulated p trace) Ok by.0 (record {
       said = said;
@@ -19,6 +19,5 @@ returns-clause-runs c p code cycles boot trace h =
 
 pub returns-clause-only : goal.returns-clause-only
 returns-clause-only c p code cycles boot trace printed ending h r =
-    let by = carries_interp p code cycles boot h in
     let ran = replays_interp p code trace printed ending r in
-    (ran.1.lines ∙ carried_lines p code cycles ran.1.said trace by.1 ran.1.text, ran.1.ends)
+    (ran.1.lines ∙ carried_lines p code cycles ran.1.said trace (interp_carries p code cycles boot ran.0 h) ran.1.text, ran.1.ends)

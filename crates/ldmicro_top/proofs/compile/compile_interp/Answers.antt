@@ -9,12 +9,12 @@ use Rattle.ldmicro_top.proofs.CarryLemmas.{carried}
 use Rattle.ldmicro_top.proofs.LengthLemmas.{text_short}
 use Rattle.ldmicro_top.proofs.NamedLemmas.{writable_names}
 use Rattle.ldmicro_top.proofs.RoomLemmas.{few}
-use Rattle.ldmicro_top.proofs.TargetLemmas.{built_only, carries_on, cap_on, reports_on}
-use Rattle.ldmicro_top.proofs.compile.compile_legal.Goals as goal
+use Rattle.ldmicro_top.proofs.TargetLemmas.{machine_only, carries_on, cap_on, reports_on}
+use Rattle.ldmicro_top.proofs.compile.compile_interp.Goals as goal
 
 pub write_interp-requires : goal.write_interp-requires
 write_interp-requires c =
-    let r = c.requires in
+    let r = c.requires.judged in
     let p = c.args.legal.now.project in
     let names = c.args.legal.now.names in
     let program = c.in_ok-program.program in
@@ -25,13 +25,13 @@ write_interp-requires c =
 
 pub returns : goal.returns
 returns c =
-    let r = c.requires in
+    let r = c.requires.judged in
     let p = c.args.legal.now.project in
     let names = c.args.legal.now.names in
     let program = c.in_ok-program.program in
     let code = c.in_ok-code.code in
     let room = few p.target names r.fits in
-    let interp = built_only p.target r.within.target in
+    let interp = machine_only p.target r.within.target c.requires.machine in
     let l = rw (c.names-names.ensures, c.project-project.ensures) at c.in_ok-program.ensures in
     let texts = rw (c.names-names.ensures, c.project-project.ensures) at c.in_ok-code.ensures in
     let writable = writable_names p names program r.can.names r.can.named r.within.read r.within.cycle room.persistent l.formed l.numbers l.sizes l.room in

@@ -1,0 +1,22 @@
+use Rattle.std.proofs.Common.{ap, ◌∙◌, arith}
+use Rattle.ladder_tree.specs.declared.names.Names.{Names}
+use Rattle.ldmicro_top.specs.Report.{c_report}
+use Rattle.ldmicro_top.proofs.TargetLemmas.{text_only, carries_c, reports_c}
+use Rattle.ldmicro_top.proofs.compile.compile_c.Goals as goal
+
+pub write_c-requires : goal.write_c-requires
+write_c-requires c = rw (c.names-names.ensures, c.project.ensures) c.requires.judged.can
+
+pub returns : goal.returns
+returns c =
+    let r = c.requires.judged in
+    let p = c.args.legal.now.project in
+    let e = text_only p.target c.requires.machine in
+    record {
+      cycles = 0;
+      boot = 0;
+      carries = carries_c p c.in_ok-code.code 0 0 e (rw c.project.ensures at c.in_ok-code.ensures);
+      cycles_few = omega arith;
+      boot_few = omega arith;
+      report = reports_c p 0 0 _ e (c.in_ok-report.ensures ∙ ap c_report (c.names-names.ensures ∙ r.can.names));
+    }
