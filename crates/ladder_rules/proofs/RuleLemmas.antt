@@ -20,7 +20,7 @@ use Rattle.ladder_rules.specs.ChipRules.{lacks_baud, lacks_rate}
 use Rattle.ladder_tree.specs.Peripherals.{uses_uart, uses_pwm, rate_of, any_uart, any_pwm}
 use Rattle.ladder_rules.specs.Pins.{is_chip}
 use Rattle.ladder_rules.specs.Places.{Placed, Spot, all_placed, spots, spots_behind}
-use Rattle.ladder_rules.specs.Rules.{rate_of, first_rate, fault_of}
+use Rattle.ladder_rules.specs.Rules.{first_rate, fault_of}
 use Rattle.ladder_rules.specs.Settings.{baud_in, pwm_in, settings_of}
 use Rattle.ladder_rules.specs.Verdict.{first_fault, first_of, offence, pin_twice, cycle_range, rule}
 use Rattle.ladder_rules.specs.declared.chip_rule.ChipRule.TheVariants.{NoAdc, NoPwm, PinUnassigned, NoSuchPin, PinTaken, BaudRange, PwmRange}
