@@ -1,10 +1,13 @@
 -- What the devices of the written ATmega16 are set to: ATmega16 data sheet, the chapter of each device.
 use Rattle.std.specs.Prelude.{ℕ, ◌+◌, ◌-◌, ◌*◌, ◌/◌, ◌%◌, ◌==◌, ◌&&◌, not, nat_lt, Bool, true, false, if◌then◌else◌, Option, Some, None, is_some, bit_and, bit_or}
+use Rattle.chip_tables.specs.declared.mega16.TheConstants.{EEPROM_BYTES}
 use Rattle.chip_tables.specs.declared.settings.BaudSetting.{BaudSetting}
+use Rattle.chip_tables.specs.declared.settings.PwmSetting.{PwmSetting}
 use Rattle.avr_devices.specs.declared.devices.AvrDevices.{AvrDevices}
 use Rattle.avr_devices.specs.declared.devices.AvrPort.{AvrPort}
 use Rattle.avr_devices.specs.declared.devices.SerialPort.{SerialPort}
 use Rattle.avr_devices.specs.declared.devices.Eeprom.{Eeprom}
+use Rattle.avr_devices.specs.declared.devices.Modulator.{Modulator}
 use Rattle.avr_devices.specs.declared.devices.Conversion.{Conversion}
 use Rattle.avr_devices.specs.declared.devices.Conversion.TheVariants.{Idle, Channel, Unsupported}
 use Rattle.chip_tables.specs.Bits.{bit_of, as_bit}
@@ -16,6 +19,14 @@ port_of d port =
     else if port == 1 then d.port_b
     else if port == 2 then d.port_c
     else d.port_d
+
+-- a port by its number is another
+abbrev pub with_port : AvrDevices → ℕ → AvrPort → AvrDevices
+with_port d port p =
+    if port == 0 then record d { port_a = p }
+    else if port == 1 then record d { port_b = p }
+    else if port == 2 then record d { port_c = p }
+    else record d { port_d = p }
 
 -- PINx: an output pin shows its latch, an input pin the level outside
 abbrev pub pins : AvrPort → ℕ → ℕ
@@ -49,6 +60,19 @@ serial_status d =
 abbrev pub sent_by : AvrDevices → ℕ → Option ℕ
 sent_by d x = if is_serial_on d && not d.reading.tx_busy then Some x else None
 
+-- TCCR2 holds the control of the setting
+abbrev pub has_mode : Modulator → Option PwmSetting → Bool
+has_mode m None = false
+has_mode m (Some setting) = m.control == setting.control
+
+-- PD7 is OC2, the pin of the modulator
+abbrev pub pwm_bit : ℕ
+pwm_bit = 7
+
+-- the modulator is set up: its mode is set, and its pin is an output
+abbrev pub is_modulating : AvrDevices → Bool
+is_modulating d = has_mode d.modulator d.settings.pwm && bit_of d.port_d.direction pwm_bit
+
 -- ADCSRA: the start bit 6 shows a conversion, the other bits are as they were written
 abbrev pub converter_status : ℕ → Bool → ℕ
 converter_status control converting = control / 128 * 128 + (as_bit converting * 64 + control % 64)
@@ -64,9 +88,9 @@ abbrev pub conversion_by : ℕ → ℕ → Conversion
 conversion_by control input =
     if bit_of control 7 && (input / 32 == 2 && nat_lt (input % 32) 8) then Channel (input % 32) else Unsupported
 
--- EEARH and EEARL, in a memory of 512 bytes
+-- EEARH and EEARL, modulo the size of the memory
 abbrev pub eeprom_address : Eeprom → ℕ
-eeprom_address e = (e.address_high * 256 + e.address_low) % 512
+eeprom_address e = (e.address_high * 256 + e.address_low) % EEPROM_BYTES
 
 -- EECR: bit 2 shows that a write is unlocked, bit 1 that one is going on, bit 0 nothing
 abbrev pub eeprom_status : AvrDevices → ℕ

@@ -1,5 +1,6 @@
 -- what the devices do; `Device` says what they are set to
 pub mod Device
+pub mod Part
 pub mod IoSpace
 pub mod DeviceReads
 pub mod DeviceWrites

@@ -1,10 +1,15 @@
 //! The state of the devices.
 
 ghost use Rattle.std.specs.Prelude.{◌≡◌, ◌+◌, ◌*◌, ◌%◌, ◌<◌};
-ghost use Rattle.avr_devices.specs.Device.{port_of, is_serial_on, has_rate, converter_status, eeprom_address};
+ghost use Rattle.avr_devices.specs.Device.{port_of, is_serial_on, has_rate, has_mode, is_modulating, converter_status, eeprom_address};
 ghost use Rattle.avr_devices.specs.Reset.{reset_devices, input_port};
+ghost use Rattle.chip_tables.specs.declared.mega16.TheConstants.{EEPROM_BYTES};
 
-use chip_tables::{BaudSetting, PinReading, Poll, Settings, as_bit, bit_of};
+use chip_tables::mega16::EEPROM_BYTES;
+use chip_tables::{BaudSetting, PinReading, Poll, PwmSetting, Settings, as_bit, bit_of};
+
+/// The bit of port D at which the modulator's output is: OC2.
+const PWM_BIT: u8 = 7;
 
 /// The devices of the chip, and what they show in the current cycle.
 #[derive(Drop)]
@@ -87,7 +92,7 @@ pub enum Conversion {
 /// The EEPROM.
 #[derive(Drop)]
 pub struct Eeprom {
-    pub bytes: [u8; 512],
+    pub bytes: [u8; EEPROM_BYTES],
     /// EEARL.
     pub address_low: u8,
     /// EEARH.
@@ -118,7 +123,7 @@ pub struct Answer {
 
 impl AvrDevices {
     /// The devices after a reset, with an EEPROM of any contents, and what they have to be set to.
-    pub fn reset(eeprom: &[u8; 512], settings: &Settings) -> AvrDevices
+    pub fn reset(eeprom: &[u8; EEPROM_BYTES], settings: &Settings) -> AvrDevices
         ensures { result ≡ reset_devices eeprom.now settings.now }
     {
         AvrDevices {
@@ -175,11 +180,29 @@ impl AvrDevices {
         }
     }
 
+    /// Whether the pulse-width modulator gives its output: it is set up as the settings say, and its pin PD7 is an output.
+    pub fn is_modulating(&self) -> bool
+        ensures { result ≡ is_modulating self.now }
+    {
+        self.modulator.has_mode(self.settings.pwm) && bit_of(self.port_d.direction, PWM_BIT)
+    }
+
     pub(crate) fn is_serial_on(&self) -> bool
         ensures { result ≡ is_serial_on self.now }
     {
         self.serial.has_rate(self.settings.baud)
             && (bit_of(self.serial.control, 4) && bit_of(self.serial.control, 3))
+    }
+}
+
+impl Modulator {
+    fn has_mode(&self, setting: Option<PwmSetting>) -> bool
+        ensures { result ≡ has_mode self.now setting }
+    {
+        match setting {
+            None => false,
+            Some(setting) => self.control == setting.control,
+        }
     }
 }
 
@@ -199,9 +222,9 @@ impl SerialPort {
 impl Eeprom {
     pub(crate) fn address(&self) -> u16
         ensures value { result ≡ eeprom_address self.now }
-        ensures below { result < 512 }
+        ensures below { result < EEPROM_BYTES }
     {
-        (u16::from(self.address_high) * 256 + u16::from(self.address_low)) % 512
+        (u16::from(self.address_high) * 256 + u16::from(self.address_low)) % EEPROM_BYTES as u16
     }
 }
 

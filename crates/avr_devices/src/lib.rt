@@ -4,7 +4,9 @@
 
 mod devices;
 mod io_space;
+pub mod laws;
 mod polls;
+mod ports;
 mod reads;
 mod writes;
 
@@ -12,3 +14,7 @@ pub use devices::{
     Answer, AvrDevices, AvrPort, Conversion, Converter, CycleTimer, Eeprom, Modulator, SerialPort,
 };
 pub use io_space::{IoRegister, register_at};
+pub use ports::{
+    direction_address, direction_register, latch_address, latch_register, level_address,
+    level_register,
+};

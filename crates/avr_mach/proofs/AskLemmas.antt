@@ -15,15 +15,16 @@ use Rattle.avr_devices.specs.declared.io_space.IoRegister.{IoRegister}
 use Rattle.avr_devices.specs.declared.io_space.IoRegister.TheVariants.{Adcl, Adch, Adcsra, Admux, Ubrrl, Ucsrb, Ucsra, Udr, Pind, Ddrd, Portd, Pinc, Ddrc, Portc, Pinb, Ddrb, Portb, Pina, Ddra, Porta, Eecr, Eedr, Eearl, Eearh, Ubrrh, Ocr2, Tccr2, Ocr1al, Ocr1ah, Tccr1b, Tccr1a, Tifr, Spl, Sph, Sreg, Absent}
 use Rattle.avr_devices.specs.Device.{is_timing}
 use Rattle.avr_devices.specs.IoSpace.{register_at}
+use Rattle.avr_devices.specs.Part.{mega16}
 use Rattle.avr_mach.specs.declared.insn.AvrInsn.{AvrInsn}
 use Rattle.avr_mach.specs.declared.insn.AvrInsn.TheVariants.{Add, Adc, Sub, Sbc, Cp, Cpc, And, Eor, Or, Mov, Cpi, Ldi, Com, Inc, Lsr, Ror, Dec, Brbs, Brbc, Bset, Bclr, Rjmp, Rcall, Jmp, Call, Ret, In, Out, Cbi, Sbi, Sbic, Sbis, Sbrc, Sbrs, Lds, Sts, Ldd, Std, St, Nop}
 use Rattle.avr_mach.specs.declared.state.AvrState.{AvrState}
 use Rattle.avr_mach.specs.declared.state.Acted.{Acted}
 use Rattle.avr_mach.specs.declared.state.Flow.{Flow}
 use Rattle.avr_mach.specs.declared.state.Flow.TheVariants.{Next, Skip, To}
-use Rattle.avr_mach.specs.Arithmetic.{exec}
 use Rattle.avr_mach.specs.Asks.{in_ask, bit_ask, lds_ask, insn_ask, unless_stuck_ask, ask_by, ask_at}
 use Rattle.avr_mach.specs.Control.{branch, skip_if, obstacle}
+use Rattle.avr_mach.specs.Exec.{exec}
 use Rattle.avr_mach.specs.Memory.{Read, in_read, bit_read, lds_register, data_read}
 use Rattle.avr_mach.specs.State.{flag, reg, pointer}
 use Rattle.avr_mach.specs.Step.{avr_step, settled, stuck, unless_stuck, step_by, insn_at}
@@ -41,7 +42,7 @@ asked p q = reading_asked p (device_asked q)
 quiet : (p q : Poll) → p ≡ NoPoll → q ≡ NoPoll → asked p q ≡ ask.Nothing
 quiet p q e f = ap (λ x. asked x q) e ∙ ap (asked NoPoll) f
 
-branch_quiet : (m : AvrState) (taken : Bool) (here k : ℕ) → (branch m taken here k).acted.poll ≡ NoPoll
+branch_quiet : (m : AvrState) (taken : Bool) (here k : ℕ) → (branch mega16 m taken here k).acted.poll ≡ NoPoll
 branch_quiet m true here k = refl
 branch_quiet m false here k = refl
 
@@ -55,7 +56,7 @@ one_of_three true c x y z e f g = e
 one_of_three false true x y z e f g = f
 one_of_three false false x y z e f g = g
 
-data_quiet : (m : AvrState) (address : ℕ) → (data_read m address).answer.poll ≡ NoPoll
+data_quiet : (m : AvrState) (address : ℕ) → (data_read mega16 m address).answer.poll ≡ NoPoll
 data_quiet m address = one_of_three (nat_lt address IO_FIRST) (nat_lt address SRAM_FIRST) _ _ _ refl refl refl
 
 -- the cycle timer
@@ -186,7 +187,7 @@ lds_cases false false x y z x' y' z' a e e' f g g' = quiet z.answer.poll z'.answ
 
 -- an instruction
 insn_asks : (i : AvrInsn) (here : ℕ) (m : AvrState) →
-    asked (exec (env_of true) i here m).acted.poll (exec (env_of false) i here m).acted.poll ≡ insn_ask i m.devices
+    asked (exec mega16 (env_of true) i here m).acted.poll (exec mega16 (env_of false) i here m).acted.poll ≡ insn_ask i m.devices
 insn_asks (Add d r) here m = refl
 insn_asks (Adc d r) here m = refl
 insn_asks (Sub d r) here m = refl
@@ -230,41 +231,41 @@ insn_asks (St r) here m = refl
 insn_asks Nop here m = refl
 
 settled_reading : (flash : List ℕ) (next : ℕ) (m : AvrState) (f : Flow) (a : Acted) (other : Ask) →
-    reading_ask (went_to (settled flash next m f a).state (settled flash next m f a).end) other ≡ reading_asked a.poll other
+    reading_ask (went_to (settled mega16 flash next m f a).state (settled mega16 flash next m f a).end) other ≡ reading_asked a.poll other
 settled_reading flash next m Next a other = refl
 settled_reading flash next m Skip a other = refl
 settled_reading flash next m (To place) a other = refl
 
 settled_device : (flash : List ℕ) (next : ℕ) (m : AvrState) (f : Flow) (a : Acted) →
-    device_ask (went_to (settled flash next m f a).state (settled flash next m f a).end) ≡ device_asked a.poll
+    device_ask (went_to (settled mega16 flash next m f a).state (settled mega16 flash next m f a).end) ≡ device_asked a.poll
 settled_device flash next m Next a = refl
 settled_device flash next m Skip a = refl
 settled_device flash next m (To place) a = refl
 
 by_obstacle : (flash : List ℕ) (m : AvrState) (i : AvrInsn) (o : Option StuckCause) →
-    let s = unless_stuck flash (env_of true) m i o in let t = unless_stuck flash (env_of false) m i o in
+    let s = unless_stuck mega16 flash (env_of true) m i o in let t = unless_stuck mega16 flash (env_of false) m i o in
     reading_ask (went_to s.state s.end) (device_ask (went_to t.state t.end)) ≡ unless_stuck_ask i m o
 by_obstacle flash m i (Some cause) = refl
 by_obstacle flash m i None =
-    let a = exec (env_of true) i m.place m in
-    let b = exec (env_of false) i m.place m in
+    let a = exec mega16 (env_of true) i m.place m in
+    let b = exec mega16 (env_of false) i m.place m in
     settled_reading flash (m.place + size_of i) a.state a.acted.flow a.acted _
     ∙ ap (reading_asked a.acted.poll) (settled_device flash (m.place + size_of i) b.state b.acted.flow b.acted)
     ∙ insn_asks i m.place m
 
 by_insn : (flash : List ℕ) (m : AvrState) (i : Option AvrInsn) →
-    let s = step_by flash (env_of true) m i in let t = step_by flash (env_of false) m i in
+    let s = step_by mega16 flash (env_of true) m i in let t = step_by mega16 flash (env_of false) m i in
     reading_ask (went_to s.state s.end) (device_ask (went_to t.state t.end)) ≡ ask_by m i
 by_insn flash m None = refl
-by_insn flash m (Some i) = by_obstacle flash m i (obstacle i m)
+by_insn flash m (Some i) = by_obstacle flash m i (obstacle mega16 i m)
 
 by_place : (flash : List ℕ) (m : AvrState) (b : Bool) →
-    let s = (if b then step_by flash (env_of true) m (insn_at flash m.place) else stuck flash m PastFlash) in
-    let t = (if b then step_by flash (env_of false) m (insn_at flash m.place) else stuck flash m PastFlash) in
-    reading_ask (went_to s.state s.end) (device_ask (went_to t.state t.end)) ≡ (if b then ask_by m (insn_at flash m.place) else ask.Nothing)
-by_place flash m true = by_insn flash m (insn_at flash m.place)
+    let s = (if b then step_by mega16 flash (env_of true) m (insn_at mega16 flash m.place) else stuck mega16 flash m PastFlash) in
+    let t = (if b then step_by mega16 flash (env_of false) m (insn_at mega16 flash m.place) else stuck mega16 flash m PastFlash) in
+    reading_ask (went_to s.state s.end) (device_ask (went_to t.state t.end)) ≡ (if b then ask_by m (insn_at mega16 flash m.place) else ask.Nothing)
+by_place flash m true = by_insn flash m (insn_at mega16 flash m.place)
 by_place flash m false = refl
 
-pub asks_is : (flash : List ℕ) (m : AvrState) → ask_of (steps_over avr_step flash) m ≡ ask_at flash m
+pub asks_is : (flash : List ℕ) (m : AvrState) → ask_of (steps_over (avr_step mega16) flash) m ≡ ask_at flash m
 unfolding ask_of
 asks_is flash m = by_place flash m (nat_lt m.place FLASH_WORDS)

@@ -1,17 +1,13 @@
--- Accesses to the I/O space: AVR Instruction Set Manual, the operation of each instruction.
-use Rattle.std.specs.Prelude.{ℕ, ◌-◌, ◌^◌, not, Bool, true, false, if◌then◌else◌, None, bit_and, bit_or}
-use Rattle.chip_tables.specs.declared.outside.Env.{Env}
+-- Loads, stores and bits of the I/O space: AVR Instruction Set Manual, the operation of each instruction.
+use Rattle.std.specs.Prelude.{ℕ, ◌-◌, ◌^◌, not, Bool, if◌then◌else◌, None, bit_and, bit_or}
 use Rattle.chip_tables.specs.declared.outside.Poll.TheVariants.{NoPoll}
 use Rattle.chip_tables.specs.Bits.{bit_of}
 use Rattle.avr_devices.specs.declared.io_space.IoRegister.{IoRegister}
 use Rattle.avr_devices.specs.DeviceWrites.{sent_to}
-use Rattle.avr_devices.specs.IoSpace.{register_at}
-use Rattle.avr_mach.specs.declared.insn.AvrInsn.{AvrInsn}
-use Rattle.avr_mach.specs.declared.insn.AvrInsn.TheVariants.{In, Out, Cbi, Sbi, Sbic, Sbis}
 use Rattle.avr_mach.specs.declared.state.AvrState.{AvrState}
 use Rattle.avr_mach.specs.declared.state.Flow.TheVariants.{Next, Skip}
-use Rattle.avr_mach.specs.Memory.{Read, plain_read, in_read, bit_read, io_written}
-use Rattle.avr_mach.specs.State.{After, after, act, reg, with_reg}
+use Rattle.avr_mach.specs.Memory.{Read, plain_read, io_written}
+use Rattle.avr_mach.specs.State.{After, act, with_reg}
 
 -- d := what was read
 abbrev pub loaded : Read → ℕ → ℕ → After
@@ -40,13 +36,3 @@ abbrev pub skip_where : Read → ℕ → Bool → After
 skip_where got b set =
     let test = if set then bit_of got.answer.value b else not (bit_of got.answer.value b) in
     record { state = got.state; acted = act (if test then Skip else Next) 1 got.answer.poll None }
-
--- the last line is NOP, since each other instruction has a case before it
-abbrev pub access : Env → AvrInsn → AvrState → After
-access env (In d a) m = loaded (in_read env m (register_at a)) d 1
-access env (Out a r) m = stored m (register_at a) (reg m r) 1
-access env (Cbi a b) m = bit_cleared m (register_at a) b
-access env (Sbi a b) m = bit_made m (register_at a) b
-access env (Sbic a b) m = skip_where (bit_read env m (register_at a)) b false
-access env (Sbis a b) m = skip_where (bit_read env m (register_at a)) b true
-access env _ m = after m Next 1

@@ -1,4 +1,4 @@
--- What an instruction asks the outside for, by the register that it reads.
+-- What an instruction of the ATmega16 asks the outside for, by the register that it reads.
 use Rattle.std.specs.Prelude.{ℕ, ◌-◌, nat_lt, if◌then◌else◌, List, Option, Some, None}
 use Rattle.runs.specs.declared.ask.Ask.{Ask}
 use Rattle.runs.specs.declared.ask.Ask.TheVariants as ask
@@ -9,6 +9,7 @@ use Rattle.avr_devices.specs.declared.io_space.IoRegister.{IoRegister}
 use Rattle.avr_devices.specs.declared.io_space.IoRegister.TheVariants.{Adcsra, Tifr}
 use Rattle.avr_devices.specs.Device.{is_timing}
 use Rattle.avr_devices.specs.IoSpace.{register_at}
+use Rattle.avr_devices.specs.Part.{mega16}
 use Rattle.avr_mach.specs.declared.insn.AvrInsn.{AvrInsn}
 use Rattle.avr_mach.specs.declared.insn.AvrInsn.TheVariants.{In, Sbic, Sbis, Lds}
 use Rattle.avr_mach.specs.declared.state.AvrState.{AvrState}
@@ -48,7 +49,7 @@ unless_stuck_ask i m None = insn_ask i m.devices
 
 abbrev pub ask_by : AvrState → Option AvrInsn → Ask
 ask_by m None = ask.Nothing
-ask_by m (Some i) = unless_stuck_ask i m (obstacle i m)
+ask_by m (Some i) = unless_stuck_ask i m (obstacle mega16 i m)
 
 abbrev pub ask_at : List ℕ → AvrState → Ask
-ask_at flash m = if nat_lt m.place FLASH_WORDS then ask_by m (insn_at flash m.place) else ask.Nothing
+ask_at flash m = if nat_lt m.place FLASH_WORDS then ask_by m (insn_at mega16 flash m.place) else ask.Nothing

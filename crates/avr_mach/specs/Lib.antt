@@ -3,6 +3,7 @@ pub mod Step
 pub mod Insn
 pub mod Words
 pub mod State
+pub mod Exec
 pub mod Arithmetic
 pub mod Control
 pub mod Transfer

@@ -10,7 +10,8 @@ use Rattle.chip_tables.specs.declared.mega16.TheConstants.{IO_FIRST, SRAM_FIRST,
 use Rattle.avr_devices.specs.DeviceReads.{device_byte, byte_taken}
 use Rattle.avr_devices.specs.DeviceWrites.{device_written, sent_to}
 use Rattle.avr_devices.specs.DevicePolls.{answer, cycle_answer, cycle_asked, converter_answer, converter_asked}
-use Rattle.avr_devices.specs.IoSpace.{register_at}
+use Rattle.avr_devices.specs.IoSpace.{register_in}
+use Rattle.avr_devices.specs.Part.{AvrPart}
 use Rattle.avr_mach.specs.State.{reg, with_reg, sreg, with_sreg}
 
 -- the machine after a byte was read, and what was read
@@ -78,27 +79,27 @@ with_ram m address x =
     else m
 
 -- data memory: the registers from 0 on, the I/O space, the SRAM
-abbrev pub data_read : AvrState → ℕ → Read
-data_read m address =
+abbrev pub data_read : AvrPart → AvrState → ℕ → Read
+data_read part m address =
     if nat_lt address IO_FIRST then record { state = m; answer = answer (reg m address) NoPoll }
-    else if nat_lt address SRAM_FIRST then plain_read m (register_at (address - IO_FIRST))
+    else if nat_lt address SRAM_FIRST then plain_read m (register_in part (address - IO_FIRST))
     else record { state = m; answer = answer (ram_byte m address) NoPoll }
 
-abbrev pub lds_read : Env → AvrState → ℕ → Read
-lds_read env m address =
+abbrev pub lds_read : AvrPart → Env → AvrState → ℕ → Read
+lds_read part env m address =
     if nat_lt address IO_FIRST then record { state = m; answer = answer (reg m address) NoPoll }
-    else if nat_lt address SRAM_FIRST then lds_register env m (register_at (address - IO_FIRST))
+    else if nat_lt address SRAM_FIRST then lds_register env m (register_in part (address - IO_FIRST))
     else record { state = m; answer = answer (ram_byte m address) NoPoll }
 
-abbrev pub data_written : AvrState → ℕ → ℕ → ℕ → AvrState
-data_written m address x cycles =
+abbrev pub data_written : AvrPart → AvrState → ℕ → ℕ → ℕ → AvrState
+data_written part m address x cycles =
     if nat_lt address IO_FIRST then with_reg m address x
-    else if nat_lt address SRAM_FIRST then io_written m (register_at (address - IO_FIRST)) x cycles
+    else if nat_lt address SRAM_FIRST then io_written m (register_in part (address - IO_FIRST)) x cycles
     else with_ram m address x
 
 -- the byte that a write to data memory sends
-abbrev pub sent_at : AvrState → ℕ → ℕ → Option ℕ
-sent_at m address x =
+abbrev pub sent_at : AvrPart → AvrState → ℕ → ℕ → Option ℕ
+sent_at part m address x =
     if nat_lt address IO_FIRST then None
-    else if nat_lt address SRAM_FIRST then sent_to m.devices (register_at (address - IO_FIRST)) x
+    else if nat_lt address SRAM_FIRST then sent_to m.devices (register_in part (address - IO_FIRST)) x
     else None

@@ -1,7 +1,11 @@
 //! Accesses to the I/O space.
 
-ghost use Rattle.std.specs.Prelude.{◌≡◌, ◌<◌, if◌then◌else◌};
-ghost use Rattle.avr_mach.specs.Access.{access, stored, bit_cleared, bit_made};
+ghost use Rattle.std.specs.Prelude.{◌≡◌, ◌<◌, ℕ, if◌then◌else◌};
+ghost use Rattle.avr_devices.specs.Part.{mega16};
+ghost use Rattle.avr_mach.specs.Exec.{exec};
+ghost use Rattle.avr_mach.specs.Groups.{group_of};
+ghost use Rattle.avr_mach.specs.declared.exec.Group.TheVariants as Group;
+ghost use Rattle.avr_mach.specs.Access.{stored, bit_cleared, bit_made};
 ghost use Rattle.avr_mach.specs.Insn.{FieldsFit};
 ghost use Rattle.avr_mach.specs.State.{act, with_reg};
 
@@ -12,11 +16,12 @@ use avr_devices::{Answer, IoRegister, register_at};
 use chip_tables::{Env, Poll, bit_mask, bit_of};
 
 impl AvrState {
-    /// What an access to the I/O space does; else nothing, as NOP.
+    /// What an access to the I/O space does.
     pub(crate) fn access(&mut self, env: &Env, insn: AvrInsn) -> Acted
-        requires { FieldsFit insn }
-        ensures state { self.new ≡ (access env.now insn self.old).state }
-        ensures acted { result ≡ (access env.now insn self.old).acted }
+        requires fits { FieldsFit insn }
+        requires group { group_of insn ≡ Group.Access }
+        ensures state { (here : ℕ) → self.new ≡ (exec mega16 env.now insn here self.old).state }
+        ensures acted { (here : ℕ) → result ≡ (exec mega16 env.now insn here self.old).acted }
         ensures cycles { result.cycles < 8 }
     {
         match insn {

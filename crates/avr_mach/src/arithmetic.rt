@@ -1,24 +1,26 @@
 //! Arithmetic, logic and comparisons, with their flags.
 
-ghost use Rattle.std.specs.Prelude.{◌≡◌, ◌<◌};
-ghost use Rattle.avr_mach.specs.Arithmetic.{exec, differ, with_sum, difference, with_compared, with_difference, with_result, with_shifted};
-ghost use Rattle.avr_mach.specs.Control.{HasRoom};
+ghost use Rattle.std.specs.Prelude.{◌≡◌, ◌<◌, ℕ};
+ghost use Rattle.avr_devices.specs.Part.{mega16};
+ghost use Rattle.avr_mach.specs.Arithmetic.{differ, with_sum, difference, with_compared, with_difference, with_result, with_shifted};
+ghost use Rattle.avr_mach.specs.Exec.{exec};
+ghost use Rattle.avr_mach.specs.Groups.{group_of};
 ghost use Rattle.avr_mach.specs.Insn.{FieldsFit};
 ghost use Rattle.avr_mach.specs.State.{act, reg};
-ghost use Rattle.chip_tables.specs.declared.mega16.TheConstants.{FLASH_WORDS};
+ghost use Rattle.chip_tables.specs.declared.outside.Env.{Env};
+ghost use Rattle.avr_mach.specs.declared.exec.Group.TheVariants as Group;
 
 use crate::insn::AvrInsn;
 use crate::state::{Acted, AvrState, Flow};
-use chip_tables::{Env, Poll, as_bit, bit_of};
+use chip_tables::{Poll, as_bit, bit_of};
 
 impl AvrState {
-    /// What an instruction at a place does, but for setting the place.
-    pub(crate) fn exec(&mut self, env: &Env, insn: AvrInsn, here: u32) -> Acted
+    /// What an instruction of arithmetic, logic or comparison does.
+    pub(crate) fn arithmetic(&mut self, insn: AvrInsn) -> Acted
         requires fits { FieldsFit insn }
-        requires room { HasRoom insn self.old }
-        requires near { here < FLASH_WORDS }
-        ensures state { self.new ≡ (exec env.now insn here self.old).state }
-        ensures acted { result ≡ (exec env.now insn here self.old).acted }
+        requires group { group_of insn ≡ Group.Arithmetic }
+        ensures state { (env : Env) (here : ℕ) → self.new ≡ (exec mega16 env insn here self.old).state }
+        ensures acted { (env : Env) (here : ℕ) → result ≡ (exec mega16 env insn here self.old).acted }
         ensures cycles { result.cycles < 8 }
     {
         match insn {
@@ -58,7 +60,7 @@ impl AvrState {
                 let x = self.reg(d);
                 self.put_shifted(d, x, as_bit(self.carry) * 128 + x / 2);
             }
-            _ => return self.control(env, insn, here),
+            _ => return next(1),
         }
         next(1)
     }

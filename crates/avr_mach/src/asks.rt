@@ -1,6 +1,7 @@
 //! What the machine asks the outside for.
 
 ghost use Rattle.std.specs.Prelude.{◌≡◌};
+ghost use Rattle.avr_devices.specs.Part.{mega16};
 ghost use Rattle.avr_mach.specs.Asks.{timer_ask, in_ask, bit_ask, lds_ask, insn_ask, unless_stuck_ask, ask_at};
 ghost use Rattle.avr_mach.specs.Control.{obstacle};
 ghost use Rattle.avr_mach.specs.Step.{avr_step};
@@ -18,7 +19,7 @@ impl AvrState {
     /// What the next step asks the outside for; nothing where there is no step. `flash` has the words of program flash from 0 on.
     #[tactic(auto, using(crate::proofs::AskLemmas::asks_is))]
     pub fn asks(&self, flash: &[u16]) -> Ask
-        ensures { result ≡ ask_of (steps_over avr_step flash.now) self.now }
+        ensures { result ≡ ask_of (steps_over (avr_step mega16) flash.now) self.now }
     {
         self.ask_at(flash)
     }
@@ -36,7 +37,7 @@ impl AvrState {
     }
 
     fn unless_stuck_ask(&self, insn: AvrInsn) -> Ask
-        ensures { result ≡ unless_stuck_ask insn self.now (obstacle insn self.now) }
+        ensures { result ≡ unless_stuck_ask insn self.now (obstacle mega16 insn self.now) }
     {
         match self.obstacle(insn) {
             Some(_) => Ask::Nothing,

@@ -1,8 +1,13 @@
 //! Branches, jumps, calls, skips and writes to a flag, and why an instruction may have no step.
 
 ghost use Rattle.std.specs.Prelude.{◌≡◌, ◌+◌, ◌<◌, ◌≤◌, ◌^◌, IfNone};
-ghost use Rattle.avr_mach.specs.Control.{control, near, branch, skip_if, with_call, return_place, call_obstacle, return_obstacle, obstacle, HasRoom};
+ghost use Rattle.avr_mach.specs.Control.{near, branch, skip_if, with_call, return_place, call_obstacle, return_obstacle, obstacle, HasRoom};
+ghost use Rattle.avr_mach.specs.Exec.{exec};
+ghost use Rattle.avr_mach.specs.Groups.{group_of};
 ghost use Rattle.avr_mach.specs.Insn.{FieldsFit};
+ghost use Rattle.avr_devices.specs.Part.{mega16};
+ghost use Rattle.chip_tables.specs.declared.outside.Env.{Env};
+ghost use Rattle.avr_mach.specs.declared.exec.Group.TheVariants as Group;
 ghost use Rattle.avr_mach.specs.State.{act};
 ghost use Rattle.chip_tables.specs.declared.mega16.TheConstants.{FLASH_WORDS, SRAM_END};
 ghost use Rattle.avr_mach.specs.declared.state.AvrState.{AvrState};
@@ -11,12 +16,12 @@ use crate::arithmetic::next;
 use crate::insn::AvrInsn;
 use crate::state::{Acted, AvrState, Flow};
 use chip_tables::mega16::{FLASH_WORDS, SRAM_END, SRAM_FIRST};
-use chip_tables::{Env, Poll, StuckCause, bit_of};
+use chip_tables::{Poll, StuckCause, bit_of};
 
 impl AvrState {
     /// Why the instruction has no step here, if it has none.
     pub(crate) fn obstacle(&self, insn: AvrInsn) -> Option<StuckCause>
-        ensures value { result ≡ obstacle insn self.now }
+        ensures value { result ≡ obstacle mega16 insn self.now }
         ensures room { IfNone result (HasRoom insn self.now) }
     {
         let has_second_word = self.place < FLASH_WORDS - 1;
@@ -70,14 +75,14 @@ impl AvrState {
         }
     }
 
-    /// What a branch, a jump, a call, a skip or a write to a flag does, and the instructions after
-    /// those.
-    pub(crate) fn control(&mut self, env: &Env, insn: AvrInsn, here: u32) -> Acted
+    /// What a branch, a jump, a call, a skip or a write to a flag does; NOP is the one that does nothing.
+    pub(crate) fn control(&mut self, insn: AvrInsn, here: u32) -> Acted
         requires fits { FieldsFit insn }
+        requires group { group_of insn ≡ Group.Control }
         requires room { HasRoom insn self.old }
         requires near { here < FLASH_WORDS }
-        ensures state { self.new ≡ (control env.now insn here self.old).state }
-        ensures acted { result ≡ (control env.now insn here self.old).acted }
+        ensures state { (env : Env) → self.new ≡ (exec mega16 env insn here self.old).state }
+        ensures acted { (env : Env) → result ≡ (exec mega16 env insn here self.old).acted }
         ensures cycles { result.cycles < 8 }
     {
         match insn {
@@ -108,7 +113,8 @@ impl AvrState {
             }
             AvrInsn::Sbrc { r, b } => skip_if(!bit_of(self.reg(r), b)),
             AvrInsn::Sbrs { r, b } => skip_if(bit_of(self.reg(r), b)),
-            _ => self.transfer(env, insn),
+            AvrInsn::Nop => next(1),
+            _ => next(1),
         }
     }
 
@@ -144,7 +150,7 @@ fn jump(place: u32, cycles: u8) -> Acted
 fn near(here: u32, k: u16, half: u16) -> u32
     requires here { here < FLASH_WORDS }
     requires half { half < 4096 }
-    ensures { result ≡ near here k half }
+    ensures { result ≡ near mega16 here k half }
 {
     let from = here + 1 + u32::from(k);
     if k < half {
@@ -156,7 +162,7 @@ fn near(here: u32, k: u16, half: u16) -> u32
 
 fn branch(taken: bool, here: u32, k: u8) -> Acted
     requires { here < FLASH_WORDS }
-    ensures acted { (m : AvrState) → result ≡ (branch m taken here k).acted }
+    ensures acted { (m : AvrState) → result ≡ (branch mega16 m taken here k).acted }
     ensures cycles { result.cycles < 8 }
 {
     if taken {

@@ -5,6 +5,7 @@ mod access;
 mod arithmetic;
 mod asks;
 mod control;
+mod exec;
 mod insn;
 mod memory;
 mod state;

@@ -3,6 +3,7 @@
 ghost use Rattle.std.specs.Prelude.{◌≡◌, ◌+◌, ◌-◌, ◌<◌};
 ghost use Rattle.avr_mach.specs.Memory.{io_byte, after_reading, plain_read, in_read, bit_read, lds_register, io_written, with_ram, data_read, lds_read, data_written, sent_at};
 ghost use Rattle.avr_devices.specs.DevicePolls.{answer};
+ghost use Rattle.avr_devices.specs.Part.{mega16};
 ghost use Rattle.avr_devices.specs.DeviceWrites.{sent_to};
 
 use crate::state::AvrState;
@@ -100,8 +101,8 @@ impl AvrState {
 
     /// Reads data memory as LDD does.
     pub(crate) fn read_data(&mut self, address: u16) -> Answer
-        ensures state { self.new ≡ (data_read self.old address).state }
-        ensures answer { result ≡ (data_read self.old address).answer }
+        ensures state { self.new ≡ (data_read mega16 self.old address).state }
+        ensures answer { result ≡ (data_read mega16 self.old address).answer }
     {
         if address < IO_FIRST {
             said(self.regs[address as usize])
@@ -114,8 +115,8 @@ impl AvrState {
 
     /// Reads data memory as LDS does.
     pub(crate) fn read_lds(&mut self, env: &Env, address: u16) -> Answer
-        ensures state { self.new ≡ (lds_read env.now self.old address).state }
-        ensures answer { result ≡ (lds_read env.now self.old address).answer }
+        ensures state { self.new ≡ (lds_read mega16 env.now self.old address).state }
+        ensures answer { result ≡ (lds_read mega16 env.now self.old address).answer }
     {
         if address < IO_FIRST {
             said(self.regs[address as usize])
@@ -129,8 +130,8 @@ impl AvrState {
     /// Writes data memory by an instruction of so many cycles; gives the byte that is sent.
     pub(crate) fn write_data(&mut self, address: u16, x: u8, cycles: u8) -> Option<u8>
         requires { cycles < 8 }
-        ensures state { self.new ≡ data_written self.old address x cycles }
-        ensures sent { result ≡ sent_at self.old address x }
+        ensures state { self.new ≡ data_written mega16 self.old address x cycles }
+        ensures sent { result ≡ sent_at mega16 self.old address x }
     {
         if address < IO_FIRST {
             self.regs[address as usize] = x;

@@ -2,12 +2,13 @@
 
 ghost use Rattle.std.specs.Prelude.{◌≡◌, ◌+◌, ◌*◌, ◌/◌, ◌%◌, ◌^◌, ◌<◌, slice_index};
 ghost use Rattle.avr_devices.specs.Device.{port_of};
+ghost use Rattle.chip_tables.specs.declared.mega16.TheConstants.{EEPROM_BYTES};
 ghost use Rattle.avr_mach.specs.Memory.{ram_byte};
 ghost use Rattle.avr_mach.specs.Reset.{reset_state};
 ghost use Rattle.avr_mach.specs.State.{flag, with_flag, sreg, with_sreg, pointer, with_pointer};
 
 use avr_devices::AvrDevices;
-use chip_tables::mega16::{SRAM_END, SRAM_FIRST};
+use chip_tables::mega16::{EEPROM_BYTES, SRAM_BYTES, SRAM_END, SRAM_FIRST};
 use chip_tables::{Poll, Settings, as_bit, bit_of};
 
 /// The registers, the memories, the flags and the devices of an ATmega16 between two instructions.
@@ -17,7 +18,7 @@ pub struct AvrState {
     pub place: u32,
     pub regs: [u8; 32],
     /// The data memory from address 60h on.
-    pub sram: [u8; 1024],
+    pub sram: [u8; SRAM_BYTES],
     /// C of SREG.
     pub carry: bool,
     /// Z of SREG.
@@ -65,9 +66,9 @@ impl AvrState {
     /// The machine after a reset, with memories, registers and EEPROM of any contents, and what its
     /// devices have to be set to.
     pub fn reset(
-        sram: &[u8; 1024],
+        sram: &[u8; SRAM_BYTES],
         regs: &[u8; 32],
-        eeprom: &[u8; 512],
+        eeprom: &[u8; EEPROM_BYTES],
         settings: &Settings,
     ) -> AvrState
         ensures { result ≡ reset_state sram.now regs.now eeprom.now settings.now }
@@ -118,7 +119,7 @@ impl AvrState {
 
     /// The byte of EEPROM at an address.
     pub fn eeprom_at(&self, address: u16) -> u8
-        requires { address < 512 }
+        requires { address < EEPROM_BYTES }
         ensures { result ≡ slice_index self.now.devices.eeprom.bytes address }
     {
         self.devices.eeprom.bytes[address as usize]

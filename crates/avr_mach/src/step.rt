@@ -1,6 +1,7 @@
 //! One step of the machine.
 
 ghost use Rattle.std.specs.Prelude.{◌≡◌, ◌+◌, ◌<◌, ◌^◌, IfSome};
+ghost use Rattle.avr_devices.specs.Part.{mega16};
 ghost use Rattle.chip_tables.specs.Step.{OnStuck};
 ghost use Rattle.avr_mach.specs.Insn.{FieldsFit};
 ghost use Rattle.avr_mach.specs.Step.{avr_step, word_at, insn_at, width_of, settled, stuck, went};
@@ -15,8 +16,8 @@ impl AvrState {
     /// flash from 0 on; those that it lacks, and those past the 8192 of the chip, are erased. `env`
     /// has the answer to an instruction that asks, and the reading that a cycle begins with.
     pub fn step(&mut self, flash: &[u16], env: &Env) -> StepEnd
-        ensures state { self.new ≡ (avr_step flash.now env.now self.old).state }
-        ensures end { result ≡ (avr_step flash.now env.now self.old).end }
+        ensures state { self.new ≡ (avr_step mega16 flash.now env.now self.old).state }
+        ensures end { result ≡ (avr_step mega16 flash.now env.now self.old).end }
 
         // A machine that has no step stays as it is.
         ensures unchanged { OnStuck result (self.new ≡ self.old) }
@@ -38,7 +39,7 @@ impl AvrState {
     }
 
     fn stuck(&self, flash: &[u16], cause: StuckCause) -> StepEnd
-        ensures { result ≡ (stuck flash.now self.now cause).end }
+        ensures { result ≡ (stuck mega16 flash.now self.now cause).end }
     {
         StepEnd::Stuck(StuckAt {
             place: self.place,
@@ -51,8 +52,8 @@ impl AvrState {
     fn settle(&mut self, flash: &[u16], next: u32, acted: Acted) -> Went
         requires next { next < FLASH_WORDS + 3 }
         requires cycles { acted.cycles < 8 }
-        ensures state { self.new ≡ (settled flash.now next self.old acted.flow acted).state }
-        ensures end { StepEnd.Went result ≡ (settled flash.now next self.old acted.flow acted).end }
+        ensures state { self.new ≡ (settled mega16 flash.now next self.old acted.flow acted).state }
+        ensures end { StepEnd.Went result ≡ (settled mega16 flash.now next self.old acted.flow acted).end }
     {
         match acted.flow {
             Flow::Next => self.come_to(next, acted.cycles, acted),
@@ -79,7 +80,7 @@ impl AvrState {
 }
 
 fn word_at(flash: &[u16], place: u32) -> u16
-    ensures { result ≡ word_at flash.now place }
+    ensures { result ≡ word_at mega16 flash.now place }
 {
     if place >= FLASH_WORDS {
         return 0xffff;
@@ -92,7 +93,7 @@ fn word_at(flash: &[u16], place: u32) -> u16
 
 pub(crate) fn insn_at(flash: &[u16], place: u32) -> Option<AvrInsn>
     requires { place < 10000 }
-    ensures value { result ≡ insn_at flash.now place }
+    ensures value { result ≡ insn_at mega16 flash.now place }
     ensures fits { IfSome result FieldsFit }
 {
     decode(word_at(flash, place), word_at(flash, place + 1))
@@ -100,7 +101,7 @@ pub(crate) fn insn_at(flash: &[u16], place: u32) -> Option<AvrInsn>
 
 fn width_at(flash: &[u16], place: u32) -> u8
     requires { place < 10000 }
-    ensures value { result ≡ width_of (insn_at flash.now place) }
+    ensures value { result ≡ width_of (insn_at mega16 flash.now place) }
     ensures below { result < 3 }
 {
     match insn_at(flash, place) {

@@ -1,9 +1,13 @@
 //! Copies, and accesses to data memory.
 
-ghost use Rattle.std.specs.Prelude.{◌≡◌, ◌<◌};
+ghost use Rattle.std.specs.Prelude.{◌≡◌, ◌<◌, ℕ};
+ghost use Rattle.avr_devices.specs.Part.{mega16};
+ghost use Rattle.avr_mach.specs.Exec.{exec};
+ghost use Rattle.avr_mach.specs.Groups.{group_of};
+ghost use Rattle.avr_mach.specs.declared.exec.Group.TheVariants as Group;
 ghost use Rattle.avr_mach.specs.Insn.{FieldsFit};
 ghost use Rattle.avr_mach.specs.State.{reg};
-ghost use Rattle.avr_mach.specs.Transfer.{transfer, stored_at, stored_at_x};
+ghost use Rattle.avr_mach.specs.Transfer.{stored_at, stored_at_x};
 
 use crate::arithmetic::next;
 use crate::insn::AvrInsn;
@@ -11,11 +15,12 @@ use crate::state::{Acted, AvrState, Flow};
 use chip_tables::{Env, Poll};
 
 impl AvrState {
-    /// What a copy, an access to data memory or one to the I/O space does; else nothing, as NOP.
+    /// What a copy or an access to data memory does.
     pub(crate) fn transfer(&mut self, env: &Env, insn: AvrInsn) -> Acted
-        requires { FieldsFit insn }
-        ensures state { self.new ≡ (transfer env.now insn self.old).state }
-        ensures acted { result ≡ (transfer env.now insn self.old).acted }
+        requires fits { FieldsFit insn }
+        requires group { group_of insn ≡ Group.Transfer }
+        ensures state { (here : ℕ) → self.new ≡ (exec mega16 env.now insn here self.old).state }
+        ensures acted { (here : ℕ) → result ≡ (exec mega16 env.now insn here self.old).acted }
         ensures cycles { result.cycles < 8 }
     {
         match insn {
@@ -40,14 +45,14 @@ impl AvrState {
                 self.store_at(self.pointer(28).wrapping_add(u16::from(q)), self.reg(r))
             }
             AvrInsn::St { r } => self.store_at_x(r),
-            _ => self.access(env, insn),
+            _ => next(1),
         }
     }
 
     fn store_at_x(&mut self, r: u8) -> Acted
         requires { r < 32 }
-        ensures state { self.new ≡ (stored_at_x self.old (reg self.old r)).state }
-        ensures acted { result ≡ (stored_at_x self.old (reg self.old r)).acted }
+        ensures state { self.new ≡ (stored_at_x mega16 self.old (reg self.old r)).state }
+        ensures acted { result ≡ (stored_at_x mega16 self.old (reg self.old r)).acted }
     {
         let address = self.pointer(26);
         let acted = self.store_at(address, self.reg(r));
@@ -56,8 +61,8 @@ impl AvrState {
     }
 
     fn store_at(&mut self, address: u16, x: u8) -> Acted
-        ensures state { self.new ≡ (stored_at self.old address x).state }
-        ensures acted { result ≡ (stored_at self.old address x).acted }
+        ensures state { self.new ≡ (stored_at mega16 self.old address x).state }
+        ensures acted { result ≡ (stored_at mega16 self.old address x).acted }
     {
         let sent = self.write_data(address, x, 2);
         Acted {

@@ -4,3 +4,4 @@ pub mod Times
 pub mod Steps
 pub mod Ways
 pub mod SampleLemmas
+pub mod ListedLemmas

@@ -4,6 +4,8 @@ pub mod Table
 pub mod Machine
 pub mod Counts
 pub mod Admitted
+pub mod Kinds
+pub mod Lowered
 pub mod Samples
 -- what the code keeps of a step
 pub mod State

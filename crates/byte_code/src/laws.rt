@@ -1,6 +1,8 @@
 //! Laws of the byte machine, each the contract of a function that does nothing.
 
-ghost use Rattle.std.specs.Prelude.{◌≡◌, true, false, List, Bool};
+ghost use Rattle.std.specs.Prelude.{◌≡◌, true, false, List, [], ◌∷◌, Bool};
+ghost use Rattle.chip_tables.specs.declared.target.Target.TheVariants.{Mega16};
+ghost use Rattle.byte_code.specs.Lowered.{IsListed, Cpy, Fi};
 ghost use Rattle.chip_tables.specs.declared.mega16.TheConstants.{SRAM_FIRST};
 ghost use Rattle.chip_tables.specs.declared.outside.PinReading.{PinReading};
 ghost use Rattle.byte_code.specs.declared.state.Bytes.{Bytes};
@@ -27,4 +29,10 @@ pub fn samples_are_admitted()
     ensures copier { list_all (λ p. admits one_to_one p.prim) copier ≡ true }
     ensures by_twos { list_all (λ p. admits one_to_one p.prim) by_twos ≡ true }
     ensures other { list_all (λ p. admits other_way p.prim) copier ≡ false }
+{}
+
+/// The copier may be the code of one operation, which copies a pin to a pin, and of none that is less.
+pub fn copier_is_listed()
+    ensures listed { IsListed Mega16 0 [] (Cpy false false ∷ []) copier }
+    ensures less { IsListed Mega16 0 [] (Fi ∷ []) copier → ⊥ }
 {}
