@@ -1,9 +1,15 @@
 -- The tiny machine's code for each primitive, and what it stands for.
-use Rattle.std.specs.Prelude.{◌≡◌, ℕ, suc, ◌+◌, ◌<◌, List, [], ◌∷◌, Some, slice_index}
+use Rattle.std.specs.Prelude.{◌≡◌, ℕ, suc, ◌+◌, ◌<◌, List, [], ◌∷◌, Some, false, slice_index}
 use Rattle.byte_code.specs.declared.prim.BytePrim.{BytePrim}
 use Rattle.byte_code.specs.declared.prim.BytePrim.TheVariants.{Start, CyclePoll, AdcPoll, Label, Jump, Call, Return, JumpWhere, Bit, Byte, Word, Compare, Device, Eeprom, Table}
 use Rattle.byte_code.specs.declared.prim.Test.{Test}
 use Rattle.byte_code.specs.declared.prim.Test.TheVariants as test
+use Rattle.byte_code.specs.declared.prim.BitSource.{BitSource}
+use Rattle.byte_code.specs.declared.prim.BitSource.TheVariants as source
+use Rattle.byte_code.specs.declared.prim.BitDest.{BitDest}
+use Rattle.byte_code.specs.declared.prim.BitDest.TheVariants as dest
+use Rattle.byte_code.specs.declared.prim.BitOp.{BitOp}
+use Rattle.byte_code.specs.declared.prim.BitOp.TheVariants as bits
 use Rattle.byte_code.specs.declared.prim.ByteOp.{ByteOp}
 use Rattle.byte_code.specs.declared.prim.ByteOp.TheVariants as bytes
 use Rattle.byte_code.specs.declared.prim.ByteSource.{ByteSource}
@@ -14,11 +20,12 @@ use Rattle.byte_code.specs.declared.state.Bytes.{Bytes}
 use Rattle.byte_code.specs.Table.{plain}
 use Rattle.tiny_gen.specs.declared.state.TinyState.{TinyState}
 use Rattle.tiny_gen.specs.declared.state.Insn.{Insn}
-use Rattle.tiny_gen.specs.declared.state.Insn.TheVariants.{Boot, AskCycle, AskDevice, Goto, CallTo, Back, Rest, Load, Keep, SendHeld, SkipByte}
+use Rattle.tiny_gen.specs.declared.state.Insn.TheVariants.{Boot, AskCycle, AskDevice, Goto, CallTo, Back, Rest, Load, Keep, SendHeld, SkipByte, LoadLevel, KeepLatch}
 use Rattle.target_core.specs.Law.{Target}
 use Rattle.tiny_gen.specs.Machine.{encoded, tiny_step}
 
--- what is admitted, and its code: starts that clear no cells, jumps by whether a byte was received, copies of cells, and sends of cells
+-- what is admitted, and its code: starts that clear no cells, jumps by whether a byte was received, copies of levels to latches, copies of cells, and
+-- sends of cells
 abbrev pub admits_test : Test → Type 0
 admits_test test.NoByte = Unit {0}
 admits_test test.LoopsOn = ⊥
@@ -27,6 +34,21 @@ admits_test (test.Flag kind is) = ⊥
 admits_test test.Sends = ⊥
 admits_test test.Writes = ⊥
 admits_test test.NoneWaits = ⊥
+
+abbrev pub admits_dest : BitDest → Type 0
+admits_dest (dest.Latch port b) = (port < 8) × (b < 8)
+admits_dest (dest.Cell a b) = ⊥
+
+abbrev pub admits_source : BitSource → Type 0
+admits_source (source.Level port b) = (port < 8) × (b < 8)
+admits_source (source.Cell a b) = ⊥
+admits_source (source.Latch port b) = ⊥
+
+abbrev pub admits_bit : BitOp → Type 0
+admits_bit (bits.Copy to from inverted) = admits_dest to × admits_source from × (inverted ≡ false)
+admits_bit (bits.Put to x) = ⊥
+admits_bit (bits.PutIf from is to x) = ⊥
+admits_bit (bits.PutOnFlag kind is to x) = ⊥
 
 abbrev pub admits_byte : ByteOp → Type 0
 admits_byte (bytes.Copy to from) = (to < 4096) × (from < 4096)
@@ -54,7 +76,7 @@ admits (Jump l) = Unit {0}
 admits (Call l) = Unit {0}
 admits Return = Unit {0}
 admits (JumpWhere by l) = admits_test by
-admits (Bit op) = ⊥
+admits (Bit op) = admits_bit op
 admits (Byte op) = admits_byte op
 admits (Word op) = ⊥
 admits (Compare op) = ⊥
@@ -70,6 +92,18 @@ test_code (test.Flag kind is) place = []
 test_code test.Sends place = []
 test_code test.Writes place = []
 test_code test.NoneWaits place = []
+
+abbrev pub copy_bit_code : BitDest → BitSource → List Insn
+copy_bit_code (dest.Latch to_port to_bit) (source.Level port b) = LoadLevel port b ∷ KeepLatch to_port to_bit ∷ []
+copy_bit_code (dest.Latch to_port to_bit) (source.Cell a b) = []
+copy_bit_code (dest.Latch to_port to_bit) (source.Latch port b) = []
+copy_bit_code (dest.Cell to to_bit) from = []
+
+abbrev pub bit_code : BitOp → List Insn
+bit_code (bits.Copy to from inverted) = copy_bit_code to from
+bit_code (bits.Put to x) = []
+bit_code (bits.PutIf from is to x) = []
+bit_code (bits.PutOnFlag kind is to x) = []
 
 abbrev pub copy_code : ByteOp → List Insn
 copy_code (bytes.Copy to from) = Load from ∷ Keep to ∷ []
@@ -97,7 +131,7 @@ code_of (Jump l) at labels = Goto (slice_index labels l) ∷ []
 code_of (Call l) at labels = CallTo (slice_index labels l) ∷ []
 code_of Return at labels = Back ∷ []
 code_of (JumpWhere by l) at labels = test_code by (slice_index labels l)
-code_of (Bit op) at labels = []
+code_of (Bit op) at labels = bit_code op
 code_of (Byte op) at labels = copy_code op
 code_of (Word op) at labels = []
 code_of (Compare op) at labels = []
@@ -118,7 +152,7 @@ word_count (Jump l) = 1
 word_count (Call l) = 1
 word_count Return = 1
 word_count (JumpWhere by l) = 2
-word_count (Bit op) = 1
+word_count (Bit op) = 2
 word_count (Byte op) = 2
 word_count (Word op) = 1
 word_count (Compare op) = 1
@@ -135,7 +169,7 @@ cycle_count (Jump l) = 2
 cycle_count (Call l) = 2
 cycle_count Return = 2
 cycle_count (JumpWhere by l) = 3
-cycle_count (Bit op) = 1
+cycle_count (Bit op) = 2
 cycle_count (Byte op) = 2
 cycle_count (Word op) = 1
 cycle_count (Compare op) = 1

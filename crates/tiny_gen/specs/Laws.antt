@@ -1,6 +1,7 @@
 -- The tiny machine keeps the law of each primitive.
 use Rattle.std.proofs.Common.{◌≡◌, ◌≢◌, ℕ, suc, ◌+◌, ◌/◌, ◌%◌, ◌<◌, ◌≤◌, inl, inr, List, [], ◌∷◌, ◌++◌, length, Option, Some, None, Bool, true, false, not, cond, refl, sym, ap, subst, ◌∙◌, arith, append-nil}
 use Rattle.std.specs.Prelude.{slice_get, slice_index, if◌then◌else◌, is_some, IsSome}
+use Rattle.chip_tables.specs.Bits.{bit_of, as_bit}
 use Rattle.chip_tables.specs.Outside.{no_reading}
 use Rattle.chip_tables.specs.declared.outside.PinReading.{PinReading}
 use Rattle.runs.specs.declared.ask.Ask.{Ask}
@@ -9,19 +10,22 @@ use Rattle.runs.specs.Run.{Went, ask_of, reading_ask, device_ask}
 use Rattle.byte_code.specs.declared.prim.BytePrim.{BytePrim}
 use Rattle.byte_code.specs.declared.prim.BytePrim.TheVariants.{Start, CyclePoll, AdcPoll, Label, Jump, Call, Return, JumpWhere, Bit, Byte, Word, Compare, Device, Eeprom, Table}
 use Rattle.byte_code.specs.declared.prim.Test.TheVariants as test
+use Rattle.byte_code.specs.declared.prim.BitSource.TheVariants as source
+use Rattle.byte_code.specs.declared.prim.BitDest.TheVariants as dest
+use Rattle.byte_code.specs.declared.prim.BitOp.TheVariants as bits
 use Rattle.byte_code.specs.declared.prim.ByteOp.TheVariants as bytes
 use Rattle.byte_code.specs.declared.prim.ByteSource.TheVariants as byte
 use Rattle.byte_code.specs.declared.prim.DeviceOp.TheVariants as devices
 use Rattle.byte_code.specs.declared.state.Bytes.{Bytes}
 use Rattle.byte_code.specs.declared.store.Store.{Store}
-use Rattle.byte_code.specs.Store.{cell, with_cell}
+use Rattle.byte_code.specs.Store.{cell, with_cell, bit_from, with_bit_at}
 use Rattle.byte_code.specs.Table.{plain, none_waits, cleared, sent_on}
 use Rattle.byte_code.specs.Machine.{act, asked_by, label_place, returned}
 use Rattle.target_core.specs.Law.{Leads, here, on, LeadsFrom, Moves, IsReady, MachineLaw, Layout, has_words}
 use Rattle.tiny_gen.specs.declared.state.TinyState.{TinyState}
 use Rattle.tiny_gen.specs.declared.state.Insn.{Insn}
-use Rattle.tiny_gen.specs.declared.state.Insn.TheVariants.{Boot, AskCycle, AskDevice, Goto, CallTo, Back, Rest, Load, Keep, SendHeld, SkipByte}
-use Rattle.tiny_gen.specs.Machine.{word_of, encoded, IsExact, insn_of, decoded, executed, executed_if, fetched, skip_step, moved, converted, tiny_step}
+use Rattle.tiny_gen.specs.declared.state.Insn.TheVariants.{Boot, AskCycle, AskDevice, Goto, CallTo, Back, Rest, Load, Keep, SendHeld, SkipByte, LoadLevel, KeepLatch}
+use Rattle.tiny_gen.specs.Machine.{word_of, pin_of, encoded, IsExact, insn_of, decoded, executed, executed_if, fetched, skip_step, moved, converted, tiny_step}
 use Rattle.tiny_gen.specs.Code.{code_of, words_of_insns, word_count, cycle_count, enter_count, admits, StandsAt, tiny_target}
 
 from_parts : (op a : ℕ) → a < 4096 → insn_of (word_of op a / 4096) (word_of op a % 4096) ≡ insn_of op a
@@ -29,6 +33,13 @@ from_parts op a h =
     let over : word_of op a / 4096 ≡ op = omega arith in
     let rest : word_of op a % 4096 ≡ a = omega arith in
     ap (λ x. insn_of x (word_of op a % 4096)) over ∙ ap (insn_of op) rest
+
+-- a pin's port and bit
+pin_parts : (port b : ℕ) → b < 8 → (X : ℕ → ℕ → Insn) → X (pin_of port b / 8) (pin_of port b % 8) ≡ X port b
+pin_parts port b h X =
+    let over : pin_of port b / 8 ≡ port = omega arith in
+    let rest : pin_of port b % 8 ≡ b = omega arith in
+    ap (λ x. X x (pin_of port b % 8)) over ∙ ap (X port) rest
 
 -- what is encoded is decoded
 decoded-encoded : (i : Insn) → IsExact i → decoded (encoded i) ≡ Some i
@@ -44,6 +55,8 @@ decoded-encoded (Load a) h = from_parts 8 a h
 decoded-encoded (Keep a) h = from_parts 9 a h
 decoded-encoded SendHeld h = from_parts 10 0 (omega arith)
 decoded-encoded SkipByte h = from_parts 11 0 (omega arith)
+decoded-encoded (LoadLevel port b) h = from_parts 12 (pin_of port b) (omega (arith, h.0, h.1)) ∙ ap Some (pin_parts port b h.1 LoadLevel)
+decoded-encoded (KeepLatch port b) h = from_parts 13 (pin_of port b) (omega (arith, h.0, h.1)) ∙ ap Some (pin_parts port b h.1 KeepLatch)
 
 -- the step where an instruction stands
 step_is : (flash : List ℕ) (m : TinyState) (i : Insn) (ready : Bool) (r : PinReading) → slice_get flash m.at ≡ Some (encoded i) → IsExact i →
@@ -63,6 +76,8 @@ insn_asks (Load a) = ask.Nothing
 insn_asks (Keep a) = ask.Nothing
 insn_asks SendHeld = ask.Nothing
 insn_asks SkipByte = ask.Nothing
+insn_asks (LoadLevel port b) = ask.Nothing
+insn_asks (KeepLatch port b) = ask.Nothing
 
 skip_asks : (m : TinyState) (v : Bool) → reading_ask (skip_step m v) (device_ask (skip_step m v)) ≡ ask.Nothing
 skip_asks m true = refl
@@ -80,6 +95,8 @@ executed_asks (Load a) m = refl
 executed_asks (Keep a) m = refl
 executed_asks SendHeld m = refl
 executed_asks SkipByte m = skip_asks m (is_some m.store.reading.rx)
+executed_asks (LoadLevel port b) m = refl
+executed_asks (KeepLatch port b) m = refl
 
 -- what the machine asks for where an instruction stands
 asks_is : (flash : List ℕ) (m : TinyState) (i : Insn) → slice_get flash m.at ≡ Some (encoded i) → IsExact i → ask_of (tiny_step flash) m ≡ insn_asks i
@@ -109,6 +126,11 @@ module _ (flash : List ℕ) (T : TinyState → Type 0) where
       insn_asks i ≡ ask.Nothing → executed i m false no_reading ≡ Some w → w.cycles + left ≤ budget → Leads (tiny_step flash) T w.next left rest →
       Leads (tiny_step flash) T m budget (w.sent ++ rest)
   then_step m i w left budget rest h x q e le further = on w left (asks_is flash m i h x ∙ q) (step_is flash m i false no_reading h x ∙ e) le further
+
+-- the lowest bit of a bit as a number
+lowest : (x : Bool) → bit_of (as_bit x) 0 ≡ x
+lowest true = refl
+lowest false = refl
 
 at_word : (flash : List ℕ) (pc place w : ℕ) → pc ≡ place → slice_get flash place ≡ Some w → slice_get flash pc ≡ Some w
 at_word flash pc place w e h = ap (slice_get flash) e ∙ h
@@ -187,6 +209,21 @@ module _ (lay : Layout) (m : TinyState) (s : Bytes) where
       (at_word lay.flash _ (suc (slice_index lay.places s.place)) _ (omega (arith, st.at)) ready.loaded.1.0) small.0 refl refl (omega arith)
       (here (record { shows = ap (λ d. plain (with_cell d to (cell d from))) st.shows; at = omega (arith, ready.next, st.at); link = st.link })))
 
+  copy_level : (to n port b : ℕ) → Ready (Bit (bits.Copy (dest.Latch to n) (source.Level port b) false)) → Stands →
+      Goes (Bit (bits.Copy (dest.Latch to n) (source.Level port b) false))
+  copy_level to n port b ready st =
+      let level = bit_from m.store (source.Level port b) in
+      go (Bit (bits.Copy (dest.Latch to n) (source.Level port b) false)) (LoadLevel port b) _ 1 [] (first _ st ready.loaded.0) ready.admitted.1 refl refl
+      (omega arith) refl
+      (then_step lay.flash (Next (Bit (bits.Copy (dest.Latch to n) (source.Level port b) false))) _ (KeepLatch to n) _ 0 1 []
+      (at_word lay.flash _ (suc (slice_index lay.places s.place)) _ (omega (arith, st.at)) ready.loaded.1.0) ready.admitted.0 refl refl (omega arith)
+      (here (record {
+        shows = ap (λ x. plain (with_bit_at m.store (dest.Latch to n) x)) (lowest level)
+            ∙ ap (λ d. plain (with_bit_at d (dest.Latch to n) (bit_from d (source.Level port b)))) st.shows;
+        at = omega (arith, ready.next, st.at);
+        link = st.link;
+      })))
+
   send : (a : ℕ) → Ready (Device (devices.Send (byte.Cell a))) → Stands → Goes (Device (devices.Send (byte.Cell a)))
   send a ready st =
       let said : (if s.store.reading.tx_busy then [] else cell s.store a ∷ []) ≡ (if m.store.reading.tx_busy then [] else cell m.store a ∷ []) = sym
@@ -232,7 +269,14 @@ module _ (lay : Layout) (m : TinyState) (s : Bytes) where
   plainly (Device (devices.AdcRead to)) ready q st = absurd ready.admitted
   plainly (Device (devices.TakeByte to)) ready q st = absurd ready.admitted
   plainly (Device (devices.PwmDuty from)) ready q st = absurd ready.admitted
-  plainly (Bit op) ready q st = absurd ready.admitted
+  plainly (Bit (bits.Copy (dest.Latch to n) (source.Level port b) false)) ready q st = copy_level to n port b ready st
+  plainly (Bit (bits.Copy (dest.Latch to n) (source.Level port b) true)) ready q st = absurd (cc ready.admitted.2)
+  plainly (Bit (bits.Copy (dest.Latch to n) (source.Cell a b) inverted)) ready q st = absurd ready.admitted.1
+  plainly (Bit (bits.Copy (dest.Latch to n) (source.Latch port b) inverted)) ready q st = absurd ready.admitted.1
+  plainly (Bit (bits.Copy (dest.Cell to n) from inverted)) ready q st = absurd ready.admitted.0
+  plainly (Bit (bits.Put to x)) ready q st = absurd ready.admitted
+  plainly (Bit (bits.PutIf from is to x)) ready q st = absurd ready.admitted
+  plainly (Bit (bits.PutOnFlag kind is to x)) ready q st = absurd ready.admitted
   plainly (Word op) ready q st = absurd ready.admitted
   plainly (Compare op) ready q st = absurd ready.admitted
   plainly (Eeprom op) ready q st = absurd ready.admitted
@@ -350,7 +394,13 @@ sized (JumpWhere (test.Flag kind is) l) place labels h = absurd h
 sized (JumpWhere test.Sends l) place labels h = absurd h
 sized (JumpWhere test.Writes l) place labels h = absurd h
 sized (JumpWhere test.NoneWaits l) place labels h = absurd h
-sized (Bit op) place labels h = absurd h
+sized (Bit (bits.Copy (dest.Latch to n) (source.Level port b) inverted)) place labels h = refl
+sized (Bit (bits.Copy (dest.Latch to n) (source.Cell a b) inverted)) place labels h = absurd h.1
+sized (Bit (bits.Copy (dest.Latch to n) (source.Latch port b) inverted)) place labels h = absurd h.1
+sized (Bit (bits.Copy (dest.Cell to n) from inverted)) place labels h = absurd h.0
+sized (Bit (bits.Put to x)) place labels h = absurd h
+sized (Bit (bits.PutIf from is to x)) place labels h = absurd h
+sized (Bit (bits.PutOnFlag kind is to x)) place labels h = absurd h
 sized (Byte (bytes.Copy to from)) place labels h = refl
 sized (Byte (bytes.Put to x)) place labels h = absurd h
 sized (Byte (bytes.Xor to a b)) place labels h = absurd h

@@ -1,17 +1,23 @@
 -- The tiny machine's words and steps.
 use Rattle.std.specs.Prelude.{ℕ, suc, ◌+◌, ◌*◌, ◌/◌, ◌%◌, ◌<◌, List, [], ◌∷◌, Option, Some, None, Bool, true, false, ◌==◌, if◌then◌else◌, is_some, slice_get, slice_index_or}
+use Rattle.chip_tables.specs.Bits.{bit_of, as_bit}
 use Rattle.chip_tables.specs.declared.outside.PinReading.{PinReading}
 use Rattle.chip_tables.specs.declared.outside.Poll.TheVariants.{NoPoll, CycleReady, CycleNotReady, DeviceNotReady}
 use Rattle.runs.specs.Run.{Went, Stepper}
 use Rattle.byte_code.specs.declared.store.Store.{Store}
-use Rattle.byte_code.specs.Store.{cell, with_cell}
+use Rattle.byte_code.specs.declared.prim.BitSource.TheVariants as source
+use Rattle.byte_code.specs.declared.prim.BitDest.TheVariants as dest
+use Rattle.byte_code.specs.Store.{cell, with_cell, bit_from, with_bit_at}
 use Rattle.byte_code.specs.Table.{none_waits, sent_on}
 use Rattle.tiny_gen.specs.declared.state.TinyState.{TinyState}
 use Rattle.tiny_gen.specs.declared.state.Insn.{Insn}
-use Rattle.tiny_gen.specs.declared.state.Insn.TheVariants.{Boot, AskCycle, AskDevice, Goto, CallTo, Back, Rest, Load, Keep, SendHeld, SkipByte}
+use Rattle.tiny_gen.specs.declared.state.Insn.TheVariants.{Boot, AskCycle, AskDevice, Goto, CallTo, Back, Rest, Load, Keep, SendHeld, SkipByte, LoadLevel, KeepLatch}
 
 abbrev pub word_of : ℕ → ℕ → ℕ
 word_of op arg = op * 4096 + arg
+
+abbrev pub pin_of : ℕ → ℕ → ℕ
+pin_of port b = port * 8 + b
 
 unfoldable pub encoded : Insn → ℕ
 encoded Boot = word_of 1 0
@@ -25,6 +31,8 @@ encoded (Load a) = word_of 8 a
 encoded (Keep a) = word_of 9 a
 encoded SendHeld = word_of 10 0
 encoded SkipByte = word_of 11 0
+encoded (LoadLevel port b) = word_of 12 (pin_of port b)
+encoded (KeepLatch port b) = word_of 13 (pin_of port b)
 
 -- what it names fits its word
 abbrev pub IsExact : Insn → Type 0
@@ -32,6 +40,8 @@ IsExact (Goto a) = a < 4096
 IsExact (CallTo a) = a < 4096
 IsExact (Load a) = a < 4096
 IsExact (Keep a) = a < 4096
+IsExact (LoadLevel port b) = (port < 8) × (b < 8)
+IsExact (KeepLatch port b) = (port < 8) × (b < 8)
 IsExact Boot = Unit {0}
 IsExact AskCycle = Unit {0}
 IsExact AskDevice = Unit {0}
@@ -54,6 +64,8 @@ insn_of op a =
     else if op == 9 then Some (Keep a)
     else if op == 10 then Some SendHeld
     else if op == 11 then Some SkipByte
+    else if op == 12 then Some (LoadLevel (a / 8) (a % 8))
+    else if op == 13 then Some (KeepLatch (a / 8) (a % 8))
     else None
 
 unfoldable pub decoded : ℕ → Option Insn
@@ -99,6 +111,8 @@ executed (Load a) m ready r = took (record (moved m (suc m.at)) { held = cell m.
 executed (Keep a) m ready r = took (record (moved m (suc m.at)) { store = with_cell m.store a m.held }) 1 []
 executed SendHeld m ready r = took (record (moved m (suc m.at)) { store = sent_on m.store }) 1 (if m.store.reading.tx_busy then [] else m.held ∷ [])
 executed SkipByte m ready r = skip_step m (is_some m.store.reading.rx)
+executed (LoadLevel port b) m ready r = took (record (moved m (suc m.at)) { held = as_bit (bit_from m.store (source.Level port b)) }) 1 []
+executed (KeepLatch port b) m ready r = took (record (moved m (suc m.at)) { store = with_bit_at m.store (dest.Latch port b) (bit_of m.held 0) }) 1 []
 
 abbrev pub executed_if : Option Insn → TinyState → Bool → PinReading → Option (Went TinyState)
 executed_if None m ready r = None

@@ -2,9 +2,12 @@
 
 ghost use Rattle.std.specs.Prelude.{◌≡◌, ◌<◌, ◌++◌, ◌∷◌, [], length, slice_index, OnOk, OnErr, refl};
 ghost use Rattle.tiny_gen.specs.Machine.{encoded, IsExact};
+ghost use Rattle.tiny_gen.specs.Code.{admits_dest, admits_source, copy_bit_code, words_of_insns};
 
 use crate::state::{Insn, TinyState};
-use byte_code::prim::{ByteOp, BytePrim, ByteSource, DeviceOp, Prim, Test};
+use byte_code::prim::{
+    BitDest, BitOp, BitSource, ByteOp, BytePrim, ByteSource, DeviceOp, Prim, Test,
+};
 use std::alloc::AllocError;
 use target_core::machine::Machine16;
 use target_core::words::Words;
@@ -27,6 +30,8 @@ pub fn encode(insn: Insn) -> u16
         Insn::Keep(address) => 9 * 4096 + address,
         Insn::SendHeld => 10 * 4096,
         Insn::SkipByte => 11 * 4096,
+        Insn::LoadLevel { port, bit } => 12 * 4096 + (u16::from(port) * 8 + u16::from(bit)),
+        Insn::KeepLatch { port, bit } => 13 * 4096 + (u16::from(port) * 8 + u16::from(bit)),
     }
 }
 
@@ -46,6 +51,32 @@ fn two(into: &mut Words, first: Insn, second: Insn) -> Result<(), AllocError>
     ensures err { OnErr result (into.new ≡ into.old) }
 {
     into.extend(&[encode(first), encode(second)])
+}
+
+/// Appends the code that copies a level to a latch; where memory is refused none.
+fn copy_bit(into: &mut Words, to: BitDest, from: BitSource) -> Result<(), AllocError>
+    requires to { admits_dest to }
+    requires from { admits_source from }
+    ensures ok { OnOk result (into.new ≡ into.old ++ words_of_insns (copy_bit_code to from)) }
+    ensures err { OnErr result (into.new ≡ into.old) }
+{
+    match (to, from) {
+        (
+            BitDest::Latch { port, bit },
+            BitSource::Level {
+                port: input,
+                bit: of,
+            },
+        ) => {
+            let load = Insn::LoadLevel {
+                port: input,
+                bit: of,
+            };
+            two(into, load, Insn::KeepLatch { port, bit })
+        }
+        (BitDest::Latch { .. }, BitSource::Cell { .. } | BitSource::Latch { .. })
+        | (BitDest::Cell { .. }, _) => Ok(()),
+    }
 }
 
 /// The tiny machine as a chip.
@@ -73,13 +104,13 @@ impl Machine16 for Tiny {
             BytePrim::CyclePoll { .. } => 3,
             BytePrim::AdcPoll { .. }
             | BytePrim::JumpWhere { .. }
+            | BytePrim::Bit(_)
             | BytePrim::Byte(_)
             | BytePrim::Device(_) => 2,
             BytePrim::Start { .. }
             | BytePrim::Jump { .. }
             | BytePrim::Call { .. }
             | BytePrim::Return
-            | BytePrim::Bit(_)
             | BytePrim::Word(_)
             | BytePrim::Compare(_)
             | BytePrim::Eeprom(_)
@@ -95,10 +126,10 @@ impl Machine16 for Tiny {
             | BytePrim::Jump { .. }
             | BytePrim::Call { .. }
             | BytePrim::Return
+            | BytePrim::Bit(_)
             | BytePrim::Byte(_)
             | BytePrim::Device(_) => 2,
             BytePrim::Start { .. }
-            | BytePrim::Bit(_)
             | BytePrim::Word(_)
             | BytePrim::Compare(_)
             | BytePrim::Eeprom(_)
@@ -122,6 +153,7 @@ impl Machine16 for Tiny {
                 test: Test::NoByte,
                 label,
             } => { two(into, Insn::SkipByte, Insn::Goto(place(labels, *label))) }
+            BytePrim::Bit(BitOp::Copy { to, from, .. }) => copy_bit(into, *to, *from),
             BytePrim::Byte(ByteOp::Copy { to, from }) => {
                 two(into, Insn::Load(*from), Insn::Keep(*to))
             }

@@ -15,7 +15,7 @@ pub struct TinyState {
     pub store: Store,
 }
 
-/// The instructions. Addresses and places are below 4096.
+/// The instructions. Addresses and places are below 4096, and ports and bits below 8.
 #[derive(Clone, Copy)]
 pub enum Insn {
     /// Sets the devices.
@@ -36,4 +36,8 @@ pub enum Insn {
     SendHeld,
     /// Skips the next instruction where a byte was received.
     SkipByte,
+    /// The register becomes 1 where the level at a pin is so, and else 0.
+    LoadLevel { port: u8, bit: u8 },
+    /// The latch of a pin becomes the lowest bit of the register.
+    KeepLatch { port: u8, bit: u8 },
 }
