@@ -31,14 +31,16 @@ level_read d (suc (suc zero)) h = refl
 level_read d (suc (suc (suc zero))) h = refl
 level_read d (suc (suc (suc (suc k)))) h = absurd (past k h)
 
-pub latch_written : (d : AvrDevices) (port x cycles : ℕ) → port < 4 → device_written d (latch_register port) x cycles ≡ with_port d port (record (port_of d port) { latch = x })
+pub latch_written : (d : AvrDevices) (port x cycles : ℕ) → port < 4 → device_written d (latch_register port) x cycles ≡ with_port d port
+    (record (port_of d port) { latch = x })
 latch_written d zero x cycles h = refl
 latch_written d (suc zero) x cycles h = refl
 latch_written d (suc (suc zero)) x cycles h = refl
 latch_written d (suc (suc (suc zero))) x cycles h = refl
 latch_written d (suc (suc (suc (suc k)))) x cycles h = absurd (past k h)
 
-pub direction_written : (d : AvrDevices) (port x cycles : ℕ) → port < 4 → device_written d (direction_register port) x cycles ≡ with_port d port (record (port_of d port) { direction = x })
+pub direction_written : (d : AvrDevices) (port x cycles : ℕ) → port < 4 → device_written d (direction_register port) x cycles ≡ with_port d port
+    (record (port_of d port) { direction = x })
 direction_written d zero x cycles h = refl
 direction_written d (suc zero) x cycles h = refl
 direction_written d (suc (suc zero)) x cycles h = refl

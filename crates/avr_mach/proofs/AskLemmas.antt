@@ -60,7 +60,9 @@ data_quiet : (m : AvrState) (address : ℕ) → (data_read mega16 m address).ans
 data_quiet m address = one_of_three (nat_lt address IO_FIRST) (nat_lt address SRAM_FIRST) _ _ _ refl refl refl
 
 -- the cycle timer
-timer_asks : (flag timing : Bool) → asked (if flag then CycleStill else if timing && true then CycleReady else CycleNotReady) (if flag then CycleStill else if timing && false then CycleReady else CycleNotReady) ≡ (if flag then ask.Nothing else if timing then ask.Reading else ask.Nothing)
+timer_asks : (flag timing : Bool) → asked (if flag then CycleStill else if timing && true then CycleReady else CycleNotReady)
+    (if flag then CycleStill else if timing && false then CycleReady else CycleNotReady) ≡ (if flag then ask.Nothing else if timing then ask.Reading else
+    ask.Nothing)
 timer_asks true timing = refl
 timer_asks false true = refl
 timer_asks false false = refl
@@ -180,7 +182,9 @@ register_asks m Sph = refl
 register_asks m Sreg = refl
 register_asks m Absent = refl
 
-lds_cases : (b c : Bool) (x y z x' y' z' : Read) (a : Ask) → x.answer.poll ≡ NoPoll → x'.answer.poll ≡ NoPoll → asked y.answer.poll y'.answer.poll ≡ a → z.answer.poll ≡ NoPoll → z'.answer.poll ≡ NoPoll → asked (if b then x else if c then y else z).answer.poll (if b then x' else if c then y' else z').answer.poll ≡ (if b then ask.Nothing else if c then a else ask.Nothing)
+lds_cases : (b c : Bool) (x y z x' y' z' : Read) (a : Ask) → x.answer.poll ≡ NoPoll → x'.answer.poll ≡ NoPoll → asked y.answer.poll y'.answer.poll ≡ a →
+    z.answer.poll ≡ NoPoll → z'.answer.poll ≡ NoPoll → asked (if b then x else if c then y else z).answer.poll
+    (if b then x' else if c then y' else z').answer.poll ≡ (if b then ask.Nothing else if c then a else ask.Nothing)
 lds_cases true c x y z x' y' z' a e e' f g g' = quiet x.answer.poll x'.answer.poll e e'
 lds_cases false true x y z x' y' z' a e e' f g g' = f
 lds_cases false false x y z x' y' z' a e e' f g g' = quiet z.answer.poll z'.answer.poll g g'
@@ -223,7 +227,8 @@ insn_asks (Sbis a b) here m = bit_asks m (register_at a)
 insn_asks (Sbrc r b) here m = let e = skip_quiet m (not (bit_of (reg m r) b)) in quiet _ _ e e
 insn_asks (Sbrs r b) here m = let e = skip_quiet m (bit_of (reg m r) b) in quiet _ _ e e
 insn_asks (Lds d address) here m =
-    lds_cases (nat_lt address IO_FIRST) (nat_lt address SRAM_FIRST) _ _ _ _ _ _ (lds_ask m.devices (register_at (address - IO_FIRST))) refl refl (register_asks m (register_at (address - IO_FIRST))) refl refl
+    lds_cases (nat_lt address IO_FIRST) (nat_lt address SRAM_FIRST) _ _ _ _ _ _ (lds_ask m.devices (register_at (address - IO_FIRST))) refl refl
+        (register_asks m (register_at (address - IO_FIRST))) refl refl
 insn_asks (Sts address r) here m = refl
 insn_asks (Ldd d q) here m = let e = data_quiet m ((pointer m 28 + q) % 65536) in quiet _ _ e e
 insn_asks (Std q r) here m = refl

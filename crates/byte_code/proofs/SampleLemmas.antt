@@ -4,6 +4,7 @@ use Rattle.std.specs.Prelude.{◌==◌}
 use Rattle.std.proofs.lemmas.List.{get_or-set_same, get_or-set_other}
 use Rattle.std.proofs.lemmas.Nat.Bits.{bit_at_or, bit_at_and}
 use Rattle.chip_tables.specs.Bits.{bit_of}
+use Rattle.chip_tables.specs.declared.memory.TheConstants.{DATA_ADDRESSES}
 use Rattle.chip_tables.specs.declared.outside.PinReading.{PinReading}
 use Rattle.byte_code.specs.declared.prim.BytePrim.TheVariants.{Start, CyclePoll, Label, Jump, Call, Return, Bit, Word}
 use Rattle.byte_code.specs.declared.prim.BitSource.TheVariants as source
@@ -88,8 +89,10 @@ module _ (readings : List PinReading) where
     begun = _;
     way = acts (paced (Start 0) 1 0) (here_is copier s.place 0 _ fresh.place refl) refl (tt, tt)
         (acts (paced (Label 0) 1 1) (here_is copier _ 1 _ (ap suc fresh.place) refl) refl (tt, tt)
-        (there (record { at = ap (λ n. suc (suc n)) fresh.place; closed = fresh.open_call; converting = fresh.converting; latches = fresh.latches; copied = λ j r e. absurd (cc e) })));
-    counts = counted copier 0 _ (0 ∷ 1 ∷ 2 ∷ []) (ap (λ n. n ∷ suc n ∷ suc (suc n) ∷ []) fresh.place) (omega arith, (omega arith, (omega arith, (omega arith, (omega arith, tt)))));
+        (there (record { at = ap (λ n. suc (suc n)) fresh.place; closed = fresh.open_call; converting = fresh.converting; latches = fresh.latches;
+            copied = λ j r e. absurd (cc e) })));
+    counts = counted copier 0 _ (0 ∷ 1 ∷ 2 ∷ []) (ap (λ n. n ∷ suc n ∷ suc (suc n) ∷ []) fresh.place)
+        (omega arith, (omega arith, (omega arith, (omega arith, (omega arith, tt)))));
   }
 
   copier_turn_at : (k : ℕ) (s : Bytes) (r : PinReading) → Copied readings k s → slice_get readings k ≡ Some r →
@@ -110,30 +113,35 @@ module _ (readings : List PinReading) where
               copied = λ j q e g.
                   let same : k ≡ j = cc e in
                   let is : r ≡ q = cc (read, g, ap (slice_get readings) same) in
-                  ap (λ n. bit_of n 1) (get_or-set_same s.store.latches 1 put 0 long) ∙ put_1 (slice_index s.store.latches 1) (bit_of (slice_index r.levels 1) 0) ∙ ap (λ x. bit_of (slice_index x.levels 1) 0) is;
+                  ap (λ n. bit_of n 1) (get_or-set_same s.store.latches 1 put 0 long) ∙ put_1 (slice_index s.store.latches 1)
+                      (bit_of (slice_index r.levels 1) 0) ∙ ap (λ x. bit_of (slice_index x.levels 1) 0) is;
             }))));
-        counts = counted copier (suc k) _ (3 ∷ 4 ∷ 1 ∷ 2 ∷ []) (ap (λ n. suc n ∷ suc (suc n) ∷ 1 ∷ 2 ∷ []) h.at) (omega arith, (omega arith, (omega arith, (omega arith, (omega arith, tt)))));
+        counts = counted copier (suc k) _ (3 ∷ 4 ∷ 1 ∷ 2 ∷ []) (ap (λ n. suc n ∷ suc (suc n) ∷ 1 ∷ 2 ∷ []) h.at)
+            (omega arith, (omega arith, (omega arith, (omega arith, (omega arith, tt)))));
       }
 
   copier_turn : (k : ℕ) (s : Bytes) (r : PinReading) → Copied readings k s → slice_get readings k ≡ Some r → (p : Paced) → slice_get copier s.place ≡ Some p →
       Segment copier readings (Copied readings) (λ k. []) (suc k) (polled s (effect p.prim s.store) true r).next
-  copier_turn k s r h read p at = subst (λ q. Segment copier readings (Copied readings) (λ k. []) (suc k) (polled s (effect q.prim s.store) true r).next) (is_poll copier s.place p refl h.at at) (copier_turn_at k s r h read)
+  copier_turn k s r h read p at = subst (λ q. Segment copier readings (Copied readings) (λ k. []) (suc k) (polled s (effect q.prim s.store) true r).next)
+      (is_poll copier s.place p refl h.at at) (copier_turn_at k s r h read)
 
   pub copier_keeps : (s : Bytes) (answers : List Bool) → IsFresh s → KeepsCounts copier s readings answers
   copier_keeps s answers fresh =
       keeps_counts copier readings (Copied readings) (λ k. []) copier_polls copier_turn s answers (copier_boot s fresh)
-      (all_at (λ i p. shape_of p.prim ≡ AtPoll → 1 ≤ p.turns) copier ((λ e. absurd (cc e)), ((λ e. omega arith), ((λ e. omega arith), ((λ e. omega arith), ((λ e. omega arith), tt))))))
+      (all_at (λ i p. shape_of p.prim ≡ AtPoll → 1 ≤ p.turns) copier ((λ e. absurd (cc e)),
+          ((λ e. omega arith), ((λ e. omega arith), ((λ e. omega arith), ((λ e. omega arith), tt))))))
 
   pub copier_copies : (s : Bytes) (answers : List Bool) → IsFresh s → AtPolls copier s readings answers (IsCopied readings)
   copier_copies s answers fresh j b e at k r taken read =
-      let held = at_each copier readings (Copied readings) (λ k. []) copier_polls copier_turn s answers (copier_boot s fresh) j b (paced (CyclePoll 0) 1 1) e (here_is copier b.state.bytes.place 2 _ at refl) refl in
+      let held = at_each copier readings (Copied readings) (λ k. []) copier_polls copier_turn s answers (copier_boot s fresh) j b (paced (CyclePoll 0) 1 1) e
+          (here_is copier b.state.bytes.place 2 _ at refl) refl in
       held.0.copied k r taken read
 
 -- the counter at its poll, after k readings, where its word was `first`
 record Counts (first : ℕ) (k : ℕ) (s : Bytes) : Type 0 where
   at : s.place ≡ 2
   closed : s.open_call ≡ None
-  cells : length s.store.cells ≡ 1120
+  cells : length s.store.cells ≡ DATA_ADDRESSES
   word : word_at s.store 0x60 % 65536 ≡ (first + 2 * k) % 65536
 
 module _ (first : ℕ) (readings : List PinReading) where
@@ -158,7 +166,8 @@ module _ (first : ℕ) (readings : List PinReading) where
               cells = length-set s.store.cells waits 0 ∙ fresh.cells;
               word = omega (arith, low, high, is);
             })));
-        counts = counted by_twos 0 _ (0 ∷ 1 ∷ 2 ∷ []) (ap (λ n. n ∷ suc n ∷ suc (suc n) ∷ []) fresh.place) (omega arith, (omega arith, (omega arith, (omega arith, (omega arith, (omega arith, (omega arith, (omega arith, (omega arith, tt)))))))));
+        counts = counted by_twos 0 _ (0 ∷ 1 ∷ 2 ∷ []) (ap (λ n. n ∷ suc n ∷ suc (suc n) ∷ []) fresh.place)
+            (omega arith, (omega arith, (omega arith, (omega arith, (omega arith, (omega arith, (omega arith, (omega arith, (omega arith, tt)))))))));
       }
 
   twos_turn_at : (k : ℕ) (s : Bytes) (r : PinReading) → Counts first k s →
@@ -168,7 +177,7 @@ module _ (first : ℕ) (readings : List PinReading) where
       let one = with_word s.store 0x60 n in
       let m = (word_at one 0x60 + 1) % 65536 in
       let long : 0x61 < length s.store.cells = omega (arith, h.cells) in
-      let cells : length one.cells ≡ 1120 =
+      let cells : length one.cells ≡ DATA_ADDRESSES =
       length-set (slice_set s.store.cells 0x60 (n % 256)) 0x61 (n / 256 % 256) ∙ length-set s.store.cells 0x60 (n % 256) ∙ h.cells in
       let longer : 0x61 < length one.cells = omega (arith, cells) in
       let once : word_at one 0x60 ≡ n = put_word s.store 0x60 n long (omega arith) in
@@ -191,20 +200,25 @@ module _ (first : ℕ) (readings : List PinReading) where
               cells = length-set (slice_set one.cells 0x60 (m % 256)) 0x61 (m / 256 % 256) ∙ length-set one.cells 0x60 (m % 256) ∙ cells;
               word = two_more (word_at s.store 0x60) (word_at one 0x60) _ first k once twice h.word;
             })))))))))));
-        counts = counted by_twos (suc k) _ (3 ∷ 6 ∷ 7 ∷ 8 ∷ 4 ∷ 6 ∷ 7 ∷ 8 ∷ 5 ∷ 1 ∷ 2 ∷ []) (ap (λ x. suc x ∷ 6 ∷ 7 ∷ 8 ∷ suc (suc x) ∷ 6 ∷ 7 ∷ 8 ∷ suc (suc (suc x)) ∷ 1 ∷ 2 ∷ []) h.at)
+        counts = counted by_twos (suc k) _ (3 ∷ 6 ∷ 7 ∷ 8 ∷ 4 ∷ 6 ∷ 7 ∷ 8 ∷ 5 ∷ 1 ∷ 2 ∷ [])
+            (ap (λ x. suc x ∷ 6 ∷ 7 ∷ 8 ∷ suc (suc x) ∷ 6 ∷ 7 ∷ 8 ∷ suc (suc (suc x)) ∷ 1 ∷ 2 ∷ []) h.at)
             (omega arith, (omega arith, (omega arith, (omega arith, (omega arith, (omega arith, (omega arith, (omega arith, (omega arith, tt)))))))));
       }
 
   twos_turn : (k : ℕ) (s : Bytes) (r : PinReading) → Counts first k s → slice_get readings k ≡ Some r → (p : Paced) → slice_get by_twos s.place ≡ Some p →
       Segment by_twos readings (Counts first) (λ k. []) (suc k) (polled s (effect p.prim s.store) true r).next
-  twos_turn k s r h read p at = subst (λ q. Segment by_twos readings (Counts first) (λ k. []) (suc k) (polled s (effect q.prim s.store) true r).next) (is_poll by_twos s.place p refl h.at at) (twos_turn_at k s r h)
+  twos_turn k s r h read p at = subst (λ q. Segment by_twos readings (Counts first) (λ k. []) (suc k) (polled s (effect q.prim s.store) true r).next)
+      (is_poll by_twos s.place p refl h.at at) (twos_turn_at k s r h)
 
   pub twos_keep : (s : Bytes) (answers : List Bool) → IsFresh s → word_at s.store 0x60 ≡ first → KeepsCounts by_twos s readings answers
   twos_keep s answers fresh is =
       keeps_counts by_twos readings (Counts first) (λ k. []) twos_polls twos_turn s answers (twos_boot s fresh is)
-      (all_at (λ i p. shape_of p.prim ≡ AtPoll → 1 ≤ p.turns) by_twos ((λ e. absurd (cc e)), ((λ e. omega arith), ((λ e. omega arith), ((λ e. omega arith), ((λ e. omega arith), ((λ e. omega arith), ((λ e. omega arith), ((λ e. omega arith), ((λ e. omega arith), tt))))))))))
+      (all_at (λ i p. shape_of p.prim ≡ AtPoll → 1 ≤ p.turns) by_twos ((λ e. absurd (cc e)),
+          ((λ e. omega arith), ((λ e. omega arith), ((λ e. omega arith),
+          ((λ e. omega arith), ((λ e. omega arith), ((λ e. omega arith), ((λ e. omega arith), ((λ e. omega arith), tt))))))))))
 
   pub twos_count : (s : Bytes) (answers : List Bool) → IsFresh s → word_at s.store 0x60 ≡ first → AtPolls by_twos s readings answers (IsByTwos first)
   twos_count s answers fresh is j b e at =
-      let held = at_each by_twos readings (Counts first) (λ k. []) twos_polls twos_turn s answers (twos_boot s fresh is) j b (paced (CyclePoll 0) 1 1) e (here_is by_twos b.state.bytes.place 2 _ at refl) refl in
+      let held = at_each by_twos readings (Counts first) (λ k. []) twos_polls twos_turn s answers (twos_boot s fresh is) j b (paced (CyclePoll 0) 1 1) e
+          (here_is by_twos b.state.bytes.place 2 _ at refl) refl in
       held.0.word

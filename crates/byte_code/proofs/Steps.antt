@@ -24,7 +24,9 @@ counted_is code c p h ready r g e =
     ap (λ o. count_on c.begun (acted code o c.bytes ready r)) g
     ∙ ap (λ x. count_on c.begun (Some (shaped code p.prim x c.bytes (effect p.prim c.bytes.store) ready r))) e
 
-asks_in : (code : List Paced) (begun : List ℕ) (s : Bytes) (d : Store) (q : BytePrim) (h : Shape) → reading_ask (count_on begun (Some (shaped code q h s d true no_reading))) (device_ask (count_on begun (Some (shaped code q h s d false no_reading)))) ≡ asked_in h
+asks_in : (code : List Paced) (begun : List ℕ) (s : Bytes) (d : Store) (q : BytePrim) (h : Shape) →
+    reading_ask (count_on begun (Some (shaped code q h s d true no_reading))) (device_ask (count_on begun (Some (shaped code q h s d false no_reading)))) ≡
+    asked_in h
 asks_in code begun s d q AtStart = refl
 asks_in code begun s d q AtPoll = refl
 asks_in code begun s d q AtDevice = refl
@@ -41,7 +43,8 @@ pub counted_asks : (code : List Paced) (c : Counted) (p : Paced) (h : Shape) →
 unfolding ask_of
 counted_asks code c p h g e =
     ap (λ o. reading_ask o (device_ask (counted_step code c false no_reading))) (counted_is code c p h true no_reading g e)
-    ∙ ap (λ o. reading_ask (count_on c.begun (Some (shaped code p.prim h c.bytes (effect p.prim c.bytes.store) true no_reading))) (device_ask o)) (counted_is code c p h false no_reading g e)
+    ∙ ap (λ o. reading_ask (count_on c.begun (Some (shaped code p.prim h c.bytes (effect p.prim c.bytes.store) true no_reading))) (device_ask o))
+        (counted_is code c p h false no_reading g e)
     ∙ asks_in code c.begun c.bytes (effect p.prim c.bytes.store) p.prim h
 
 plain_in : (code : List Paced) (s : Bytes) (d : Store) (q : BytePrim) (h : Shape) → asked_in h ≡ ask.Nothing →

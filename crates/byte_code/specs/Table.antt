@@ -89,7 +89,8 @@ multiplied d =
     let r = ((word_at d s.outcome + if_set (bit_of low 0) a) % 65536 + if_set (bit_of high 0) (a * 256 % 65536)) % 65536 in
     with_word (with_word (with_word d s.outcome r) s.right (low / 2 + high / 2 * 256)) s.left (a * 2 % 65536)
 
--- The outcome, which is the rest, takes the highest bit of the left word, and gives the right word away where it is no less: then the left word's next bit is 1.
+-- The outcome, which is the rest, takes the highest bit of the left word, and gives the right word away where it is no less: then the left word's next bit is
+-- 1.
 abbrev pub divided : Store → Store
 divided d =
     let s = d.scratch in

@@ -73,7 +73,8 @@ data_passes t before low bytes none unended inside new =
     let fresh : list_any (λ a. is_some (given before a)) (range_with_len low (length bytes)) ≡ false =
     any_fails (λ a. is_some (given before a)) low (length bytes) (λ k h. ap is_some (new k h)) in
     ap (λ b. if b then end_fault (Data low bytes) else open_fault t before (Data low bytes)) unended
-    ∙ ap (λ s. if list_any (λ a. not (is_in_area t a)) (range_with_len s (length bytes)) then Some Outside else if list_any (λ a. is_some (given before a)) (range_with_len s (length bytes)) then Some Overlap else None) first
+    ∙ ap (λ s. if list_any (λ a. not (is_in_area t a)) (range_with_len s (length bytes)) then Some Outside else if list_any (λ a. is_some (given before a))
+        (range_with_len s (length bytes)) then Some Overlap else None) first
     ∙ ap (λ b. if b then Some Outside else if list_any (λ a. is_some (given before a)) (range_with_len low (length bytes)) then Some Overlap else None) within
     ∙ ap (λ b. if b then Some Overlap else None) fresh
 
@@ -119,7 +120,8 @@ words_fit : (ws : List ℕ) → All (λ w. w < 65536) ws → IsBytes (word_bytes
 words_fit [] h = λ k. omega arith
 words_fit (w ∷ ws) h =
     let word : w < 65536 = All-head (λ v. v < 65536) w ws h in
-    fits_cons (w % 256) (w / 256 ∷ word_bytes ws) (omega arith) (fits_cons (w / 256) (word_bytes ws) (omega arith) (words_fit ws (All-tail (λ v. v < 65536) w ws h)))
+    fits_cons (w % 256) (w / 256 ∷ word_bytes ws) (omega arith) (fits_cons (w / 256) (word_bytes ws) (omega arith)
+        (words_fit ws (All-tail (λ v. v < 65536) w ws h)))
 
 word_bytes-append : (xs ys : List ℕ) → word_bytes (xs ++ ys) ≡ word_bytes xs ++ word_bytes ys
 word_bytes-append [] ys = refl
@@ -161,7 +163,8 @@ data_read t (suc n) address ws before bytes f count place fit room =
     data_read t n (address + 16) (drop 8 ws) (Data address front ∷ before) (bytes ++ front) filled (omega arith) (λ some. omega arith)
     (All-drop (λ w. w < 65536) 8 ws fit) (omega arith) in
     let all : (bytes ++ front) ++ word_bytes (drop 8 ws) ≡ bytes ++ word_bytes ws =
-    append_assoc bytes front (word_bytes (drop 8 ws)) ∙ ap (λ l. bytes ++ l) (sym (word_bytes-append (take 8 ws) (drop 8 ws)) ∙ ap word_bytes (take-append-drop 8 ws)) in (
+    append_assoc bytes front (word_bytes (drop 8 ws)) ∙ ap (λ l. bytes ++ l) (sym (word_bytes-append (take 8 ws) (drop 8 ws)) ∙ ap word_bytes
+        (take-append-drop 8 ws)) in (
       next.0,
       rw (← all) next.1,
       λ rest.

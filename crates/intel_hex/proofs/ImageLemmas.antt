@@ -178,7 +178,8 @@ made_fits t byte small =
     let size = length-map-range_with_len (word_at (is_pic t) byte) 0 count in
     record {
       room = omega arith;
-      words = All-map (λ w. w < word_limit (is_pic t)) (word_at (is_pic t) byte) (range_with_len 0 count) (λ k d h. word_small (is_pic t) byte small (get_or (range_with_len 0 count) k d));
+      words = All-map (λ w. w < word_limit (is_pic t)) (word_at (is_pic t) byte) (range_with_len 0 count) (λ k d h. word_small (is_pic t) byte small
+          (get_or (range_with_len 0 count) k d));
       config = config_fits (is_pic t) byte small;
     }
 
@@ -208,4 +209,5 @@ none_small = λ a b is. absurd cc
 pub read_fits : (t : Target) (text : List ℕ) (image : Image) → hex_verdict t text ≡ Ok image → (image.target ≡ t) × IsImage image
 unfolding Fits
 read_fits t text image is =
-    subst (Fits t) is (verdict_fits t [] (sayings (is_over FILE_BYTES text) (lines (judged FILE_BYTES text))) none_small (sayings_fit (is_over FILE_BYTES text) (lines (judged FILE_BYTES text))))
+    subst (Fits t) is (verdict_fits t [] (sayings (is_over FILE_BYTES text) (lines (judged FILE_BYTES text))) none_small
+        (sayings_fit (is_over FILE_BYTES text) (lines (judged FILE_BYTES text))))

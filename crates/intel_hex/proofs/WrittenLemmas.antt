@@ -114,7 +114,8 @@ upper_read t false = ([], start_filled, λ rest. refl)
 upper_read t true = (
   Upper 0 ∷ [],
   upper_filled,
-  λ rest. one_read t [] 4 0 (0 ∷ 0 ∷ []) rest (Upper 0) (omega arith) (omega arith) (omega arith) (fits_cons 0 (0 ∷ []) (omega arith) (fits_cons 0 [] (omega arith) (λ k. omega arith))) refl refl,
+  λ rest. one_read t [] 4 0 (0 ∷ 0 ∷ []) rest (Upper 0) (omega arith) (omega arith) (omega arith)
+      (fits_cons 0 (0 ∷ []) (omega arith) (fits_cons 0 [] (omega arith) (λ k. omega arith))) refl refl,
 )
 
 -- bytes from address 0 on, and those of the configuration word
@@ -244,7 +245,8 @@ lines_read image fits =
     ∙ third.3 (line_of 1 0 [])
     ∙ end_read t third.0 third.1
     ∙ ap (λ byte. Ok (image_of t byte)) same
-    ∙ ap Ok (image_back image (with_config image.config (word_bytes image.words)) fits (config_low image.config (word_bytes image.words)) (config_back pic image.config (word_bytes image.words) fits.config (omega arith)))
+    ∙ ap Ok (image_back image (with_config image.config (word_bytes image.words)) fits (config_low image.config (word_bytes image.words))
+        (config_back pic image.config (word_bytes image.words) fits.config (omega arith)))
 
 pub reads_back : (image : Image) → IsImage image → hex_verdict image.target (hex_text image) ≡ Ok image
 reads_back image fits =

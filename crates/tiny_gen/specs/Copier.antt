@@ -2,6 +2,7 @@
 use Rattle.std.specs.Prelude.{◌≡◌, ◌≢◌, ℕ, suc, ◌+◌, ◌*◌, ◌≤◌, List, ◌++◌, Some, Bool, false, length, slice_get, slice_index}
 use Rattle.chip_tables.specs.Bits.{bit_of}
 use Rattle.chip_tables.specs.Scratch.{avr_scratch}
+use Rattle.chip_tables.specs.declared.memory.TheConstants.{DATA_ADDRESSES}
 use Rattle.chip_tables.specs.declared.outside.PinReading.{PinReading}
 use Rattle.runs.specs.declared.ask.Ask.TheVariants as ask
 use Rattle.runs.specs.Run.{ask_of, Moment, moment, first_moment, onward, IsStuck}
@@ -14,7 +15,7 @@ pub record IsReset (m : TinyState) : Type 0 where
   pub at : m.at ≡ 0
   pub converting : m.store.converting ≡ false
   pub scratch : m.store.scratch ≡ avr_scratch
-  pub cells : length m.store.cells ≡ 1120
+  pub cells : length m.store.cells ≡ DATA_ADDRESSES
   pub latches : length m.store.latches ≡ 5
 
 -- At this moment the machine is not stuck, its segment cost no more than it may, and where it asks for the next reading, the latch of pin B1 is the
