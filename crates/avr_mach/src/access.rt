@@ -40,6 +40,7 @@ impl AvrState {
                 let answer = self.read_bit(env, register_at(a));
                 skip_where(answer, bit_of(answer.value, b))
             }
+            // No other instruction is of the group.
             _ => next(1),
         }
     }

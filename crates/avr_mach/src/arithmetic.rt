@@ -60,6 +60,7 @@ impl AvrState {
                 let x = self.reg(d);
                 self.put_shifted(d, x, as_bit(self.carry) * 128 + x / 2);
             }
+            // No other instruction is of the group.
             _ => return next(1),
         }
         next(1)

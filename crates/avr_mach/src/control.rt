@@ -114,6 +114,7 @@ impl AvrState {
             AvrInsn::Sbrc { r, b } => skip_if(!bit_of(self.reg(r), b)),
             AvrInsn::Sbrs { r, b } => skip_if(bit_of(self.reg(r), b)),
             AvrInsn::Nop => next(1),
+            // No other instruction is of the group.
             _ => next(1),
         }
     }

@@ -45,6 +45,7 @@ impl AvrState {
                 self.store_at(self.pointer(28).wrapping_add(u16::from(q)), self.reg(r))
             }
             AvrInsn::St { r } => self.store_at_x(r),
+            // No other instruction is of the group.
             _ => next(1),
         }
     }

@@ -117,6 +117,10 @@ tab_code (suc (suc n)) = kind.Below ∷ kind.JumpOnFlag ∷ kind.Move ∷ kind.T
 abbrev pub simpler : List Entry
 simpler = plain (kind.Move ∷ []) ∷ plain (kind.Increment ∷ []) ∷ plain (kind.Decrement ∷ []) ∷ []
 
+-- a comparison that is known, as one of two numbers is, may be a jump
+abbrev pub known : List Entry
+known = plain (kind.Jump ∷ []) ∷ []
+
 -- what an operation may have: one of these
 abbrev pub entries : Operation → List Entry
 entries (Guarded from to) = plain (kind.PutBitIf from to ∷ []) ∷ []
@@ -126,8 +130,8 @@ entries (Cpy to from) = plain (kind.CopyBit to from ∷ []) ∷ []
 entries (Not to from) = plain (kind.CopyBit to from ∷ []) ∷ []
 entries (Ifs from) = plain (kind.JumpIf from ∷ []) ∷ []
 entries (Ifc from) = plain (kind.JumpIf from ∷ []) ∷ []
-entries Iflt = plain (kind.Less ∷ kind.JumpOnFlag ∷ []) ∷ []
-entries Ifeq = plain (kind.Equal ∷ kind.JumpOnFlag ∷ []) ∷ []
+entries Iflt = plain (kind.Less ∷ kind.JumpOnFlag ∷ []) ∷ known
+entries Ifeq = plain (kind.Equal ∷ kind.JumpOnFlag ∷ []) ∷ known
 entries Ifee = calling (Load ∷ []) (kind.EepromAt ∷ kind.Call ∷ kind.Equal ∷ kind.JumpOnFlag ∷ []) ∷ []
 entries Els = plain (kind.Jump ∷ []) ∷ []
 entries Fi = plain [] ∷ []
