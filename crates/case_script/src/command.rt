@@ -1,3 +1,5 @@
+//! The commands of a script.
+
 use crate::written::push_written;
 use std::alloc::{AllocError, Global};
 

@@ -1,3 +1,5 @@
+//! How texts and byte strings are shown in an answer.
+
 use std::alloc::{AllocError, Global};
 
 /// Appends bytes as the lines of a script's text. Behind a last line without a line feed stands a backslash.

@@ -1,3 +1,5 @@
+//! The bytes for which a part of a script stands.
+
 use std::alloc::AllocError;
 
 /// Appends the bytes for which a part of a script stands.

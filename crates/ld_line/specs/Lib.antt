@@ -1,3 +1,4 @@
+-- what a reader of the promises must believe
 pub mod Said
 pub mod Tokens
 pub mod Numbers
@@ -9,5 +10,5 @@ pub mod Header
 pub mod Pins
 pub mod Rungs
 pub mod Range
--- what only the code's own steps need
+-- what only the code's own steps and proofs need
 pub mod Steps

@@ -1,3 +1,5 @@
+//! The answer to each command.
+
 use crate::formed::{formed, nests, table, wrapped};
 use crate::places::{cell, fit, flag};
 use crate::program_texts::{sizes, verdict, written};

@@ -1,3 +1,5 @@
+//! Cases of well-formed programs.
+
 use crate::program_texts::refusal;
 use int_code::op::{BitSource, IntOp, IntProgram, NumSource, Ops};
 use int_code::well_formed::well_formed;

@@ -1,3 +1,5 @@
+//! Cases of places in a target's memory.
+
 ghost use Rattle.std.specs.Prelude.{◌≡◌, []};
 
 use chip_tables::Target;

@@ -1,3 +1,5 @@
+//! Cases of interpretable texts.
+
 use case_script::push_lines;
 use interp_code::program::InterpProgram;
 use interp_code::read::{InterpError, read_interp};

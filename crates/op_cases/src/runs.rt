@@ -1,3 +1,5 @@
+//! Cases of programs that run over traces.
+
 ghost use Rattle.std.specs.Prelude.{◌≡◌, true};
 ghost use Rattle.trace_run.specs.Run.{IsProgramOf};
 

@@ -1,3 +1,5 @@
+//! Cases of traces.
+
 use crate::program_texts::refusal;
 use interp_code::read::read_interp;
 use ladder_trace::trace::{Step, Trace, TraceError, read_trace};

@@ -1,1 +1,2 @@
+-- what a reader of the promises must believe
 pub mod Source

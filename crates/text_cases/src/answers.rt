@@ -1,3 +1,5 @@
+//! The answer to each command.
+
 use crate::lines::{blank_pieces, lines};
 use crate::names::listed;
 use crate::printing::{print_unread, printed};

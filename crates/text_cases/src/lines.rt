@@ -1,3 +1,5 @@
+//! Cases of lines and of pieces of a line.
+
 use case_script::words;
 use std::alloc::{AllocError, Global};
 use texts::lines::{split_all, split_line};

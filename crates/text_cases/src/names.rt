@@ -1,3 +1,5 @@
+//! Cases of a project's names.
+
 use crate::reading::refusal;
 use ladder_tree::names::{NameList, Names, names_in_order};
 use ld_text::read::read_project;

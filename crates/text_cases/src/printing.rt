@@ -1,3 +1,5 @@
+//! Cases of projects that are printed and read again.
+
 use crate::reading::refusal;
 use case_script::push_lines;
 use chip_tables::Target;

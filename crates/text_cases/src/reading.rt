@@ -1,3 +1,5 @@
+//! Cases of texts that are read, whole and in pieces.
+
 ghost use Rattle.std.specs.Prelude.{◌<◌};
 
 use ladder_tree::project::Project;

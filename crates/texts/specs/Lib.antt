@@ -1,3 +1,4 @@
+-- what a reader of the promises must believe
 pub mod Lines
 pub mod Digits
 pub mod Limits

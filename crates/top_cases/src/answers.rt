@@ -1,3 +1,5 @@
+//! The answer to each command.
+
 use crate::device::{calls, file, output};
 use crate::held::Held;
 use crate::needs::needs;

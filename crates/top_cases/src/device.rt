@@ -1,3 +1,5 @@
+//! Cases of files and of the output of which one call fails.
+
 use case_script::push_lines;
 use ld_base::files::{FileFault, Files, OpenFault, Out};
 use ld_base::mem_files::MemFiles;

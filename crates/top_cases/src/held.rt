@@ -1,3 +1,5 @@
+//! The files of the runs.
+
 use ld_base::mem_files::MemFiles;
 use std::alloc::{AllocError, Global};
 

@@ -1,3 +1,5 @@
+//! Cases of the real files and the real output.
+
 use ld_base::files::{FileFault, Files, OpenFault, Out};
 use ld_base::host::{HostFiles, HostOut};
 use ld_base::whole::{read_file, write_file, write_out};

@@ -1,3 +1,5 @@
+//! Cases of what a project needs on a chip, and of its rules.
+
 use chip_tables::Target;
 use ladder_rules::{Legal, boot_cap, check, cycle_cap, word_need};
 use ladder_tree::fault::ProjectFault;

@@ -1,3 +1,5 @@
+//! Cases of whole runs.
+
 use crate::held::Held;
 use case_script::push_lines;
 use ld_base::mem_files::MemFiles;
