@@ -13,6 +13,13 @@ use Rattle.c_output.specs.Filled.{numbered}
 use Rattle.c_output.specs.Node.{Part, series, branches, parallel, part_step, part, series_of, branches_of, rungs_text, memories_of}
 use Rattle.c_output.proofs.TextLemmas.{front}
 
+-- pieces behind a text, one by one
+two_more : (t a b rest all : List ℕ) → t ++ (a ++ (b ++ rest)) ≡ all → ((t ++ a) ++ b) ++ rest ≡ all
+two_more t a b rest all h = append_assoc (t ++ a) b rest ∙ append_assoc t a (b ++ rest) ∙ h
+
+three_more : (t a b c rest all : List ℕ) → t ++ (a ++ (b ++ (c ++ rest))) ≡ all → (((t ++ a) ++ b) ++ c) ++ rest ≡ all
+three_more t a b c rest all h = append_assoc ((t ++ a) ++ b) c rest ∙ two_more t a b (c ++ rest) all h
+
 pub series_step : (p : Terms) (ns : List Node) (i : ℕ) (n : Node) (d k : ℕ) (text all : List ℕ) → i < length ns → n ≡ get_or ns i n
     → text ++ (series_of p (drop i ns)).text d k ≡ all
     → (text ++ (part p n).text d k) ++ (series_of p (drop (i + 1) ns)).text d (k + (part p n).memories) ≡ all
@@ -32,7 +39,7 @@ behind d = numbered (codes "if (f) o_# = 1;\n") d
 pub branches_step : (p : Terms) (ns : List Node) (i : ℕ) (n : Node) (d k : ℕ) (text all : List ℕ) → i < length ns → n ≡ get_or ns i n
     → text ++ (branches_of p (drop i ns)).text d k ≡ all
     → (((text ++ before d) ++ (part p n).text (d + 1) k) ++ behind d) ++ (branches_of p (drop (i + 1) ns)).text d (k + (part p n).memories) ≡ all
-branches_step p ns i n d k text all lt is h = simp append_assoc (rw (front ns i n lt is) at h)
+branches_step p ns i n d k text all lt is h = three_more text (before d) ((part p n).text (d + 1) k) (behind d) _ all (rw (front ns i n lt is) at h)
 
 pub branches_count : (p : Terms) (ns : List Node) (i : ℕ) (n : Node) (k all : ℕ) → i < length ns → n ≡ get_or ns i n
     → k + (branches_of p (drop i ns)).memories ≡ all → k + (part p n).memories + (branches_of p (drop (i + 1) ns)).memories ≡ all
@@ -41,7 +48,7 @@ branches_count p ns i n k all lt is h = let e = rw (front ns i n lt is) at h in 
 pub rungs_step : (p : Terms) (gs : List Rung) (i : ℕ) (g : Rung) (k : ℕ) (text all : List ℕ) → i < length gs → g ≡ get_or gs i g
     → text ++ rungs_text p (drop i gs) k ≡ all
     → ((text ++ codes "f = m;\n") ++ (series_of p g.nodes).text 0 k) ++ rungs_text p (drop (i + 1) gs) (k + (series_of p g.nodes).memories) ≡ all
-rungs_step p gs i g k text all lt is h = simp append_assoc (rw (front gs i g lt is) at h)
+rungs_step p gs i g k text all lt is h = two_more text (codes "f = m;\n") ((series_of p g.nodes).text 0 k) _ all (rw (front gs i g lt is) at h)
 
 pub rungs_count : (p : Terms) (gs : List Rung) (i : ℕ) (g : Rung) (k all : ℕ) → i < length gs → g ≡ get_or gs i g → k + memories_of p (drop i gs) ≡ all
     → k + (series_of p g.nodes).memories + memories_of p (drop (i + 1) gs) ≡ all

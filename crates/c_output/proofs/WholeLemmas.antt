@@ -9,7 +9,7 @@ use Rattle.ladder_lower.specs.declared.layout.Layout.{Layout}
 use Rattle.ladder_lower.proofs.ProgramLemmas.{small}
 use Rattle.c_output.specs.Element.{Terms}
 use Rattle.c_output.specs.Node.{memories_of}
-use Rattle.c_output.proofs.NodeLemmas.{rungs_counted}
+use Rattle.c_output.proofs.NodeLemmas.{three, rungs_counted}
 
 -- a layout that has the names and the cycle
 pub laid : (n : Names) (q : Project) (p : Layout) (cycle : ℕ) (master : Bool) → p ≡ layout_of n cycle master → cycle ≡ q.cycle → p ≡ layout_of n q.cycle master
@@ -36,3 +36,12 @@ room n q p l =
 pub whole : (t u v w a b c d : List ℕ) → t ≡ a → u ≡ t ++ b → v ≡ u ++ c → w ≡ v ++ d → w ≡ a ++ (b ++ (c ++ d))
 whole t u v w a b c d e f g h =
     h ∙ ap (λ x. x ++ d) (g ∙ ap (λ x. x ++ c) (f ∙ ap (λ x. x ++ b) e)) ∙ append_assoc (a ++ b) c d ∙ append_assoc a b (c ++ d)
+
+-- six pieces behind a text
+pub six : (t u v w x y z a b c d e f : List ℕ) → u ≡ t ++ a → v ≡ u ++ b → w ≡ v ++ c → x ≡ w ++ d → y ≡ x ++ e → z ≡ y ++ f
+    → z ≡ t ++ (a ++ (b ++ (c ++ (d ++ (e ++ f)))))
+six t u v w x y z a b c d e f g h i j k l =
+    let rest = d ++ (e ++ f) in
+    three w x y z d e f j k l ∙ ap (λ s. s ++ rest) (three t u v w a b c g h i)
+    ∙ append_assoc t (a ++ (b ++ c)) rest
+    ∙ ap (λ s. t ++ s) (append_assoc a (b ++ c) rest ∙ ap (λ s. a ++ s) (append_assoc b c rest))

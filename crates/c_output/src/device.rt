@@ -28,12 +28,7 @@ pub fn push_adc(
 }
 
 /// SET_PWM sets the duty where there is power.
-pub fn push_pwm(
-    alloc: Global,
-    text: &mut Vec<u8>,
-    name: &Name,
-    hz: u32,
-) -> Result<(), AllocError>
+pub fn push_pwm(alloc: Global, text: &mut Vec<u8>, name: &Name, hz: u32) -> Result<(), AllocError>
     ensures { OnOk result (text.new.items ≡ text.old.items ++ filled (codes "if (f) ld_pwm(v_@ < 0 ? 0 : v_@ > 100 ? 100 : v_@, #L);\n") name.now (decimal hz) []) }
 {
     let template = "if (f) ld_pwm(v_@ < 0 ? 0 : v_@ > 100 ? 100 : v_@, #L);\n";
@@ -66,7 +61,8 @@ pub fn push_persist(
     requires { Fits layout.now 0 }
     ensures { OnOk result (text.new.items ≡ text.old.items ++ persist_text name.now (address_of layout.now.persistent name.now)) }
 {
-    let load = "if (f) { if (!s_@ && !ck()) { s_@ = 1; v_@ = w16(ld_eerd(#) + 256L * ld_eerd($)); }";
+    let load =
+        "if (f) { if (!s_@ && !ck()) { s_@ = 1; v_@ = w16(ld_eerd(#) + 256L * ld_eerd($)); }";
     let differs = " if (!ck() && v_@ != w16(ld_eerd(#) + 256L * ld_eerd($)))";
     let save =
         " { ld_eewr(#, v_@ & 255); e = 1; h = 1; ha = $; hn = (int)(((long)v_@ & 65535) >> 8); } }\n";

@@ -16,7 +16,11 @@ use std::alloc::{AllocError, Global};
 fn contact_template(neg: bool) -> &'static str
     ensures { result.now ≡ contact_template neg }
 {
-    if neg { "if (b_@) f = 0;\n" } else { "if (!b_@) f = 0;\n" }
+    if neg {
+        "if (b_@) f = 0;\n"
+    } else {
+        "if (!b_@) f = 0;\n"
+    }
 }
 
 fn coil_template(mode: CoilMode) -> &'static str
@@ -51,16 +55,11 @@ fn counter_template(how: CounterHow) -> &'static str
 }
 
 /// Appends the moves of a shift register, from its last place on.
-fn push_moves(
-    alloc: Global,
-    text: &mut Vec<u8>,
-    name: &Name,
-    places: u16,
-) -> Result<(), AllocError>
+fn push_moves(alloc: Global, text: &mut Vec<u8>, name: &Name, places: u16) -> Result<(), AllocError>
     ensures { OnOk result (text.new.items ≡ text.old.items ++ moves_text name.now places) }
 {
     for place in (1..places).rev() {
-        let to = usize::from(place);
+        let to = place as usize;
         push_pair(alloc, text, " v_@# = v_@$;", name, to, to - 1)?;
     }
     Ok(())
@@ -110,7 +109,8 @@ fn push_table(
     let index = operand_text(alloc, index)?;
     push_filled(text, "if (f) switch (#) {", b"", &index, b"")?;
     push_cases(alloc, text, dest, values)?;
-    text.extend_from_slice(b" }\n")
+    text.extend_from_slice(b" }\n")?;
+    Ok(())
 }
 
 /// Appends the text of an element behind `memory` memories. Those that do nothing have none.

@@ -63,8 +63,12 @@ fn push_head(alloc: Global, text: &mut Vec<u8>, cycle: u32) -> Result<(), AllocE
 fn push_hooks(text: &mut Vec<u8>) -> Result<(), AllocError>
     ensures { OnOk result (text.new.items ≡ text.old.items ++ hooks_text) }
 {
-    text.extend_from_slice(b"extern int ld_in(int), ld_adc(int), ld_rx(void), ld_tx(void), ld_eebusy(void), ld_eerd(int);\n")?;
-    text.extend_from_slice(b"extern void ld_out(int, int), ld_pwm(int, long), ld_send(int), ld_eewr(int, int);\n")?;
+    text.extend_from_slice(
+        b"extern int ld_in(int), ld_adc(int), ld_rx(void), ld_tx(void), ld_eebusy(void), ld_eerd(int);\n",
+    )?;
+    text.extend_from_slice(
+        b"extern void ld_out(int, int), ld_pwm(int, long), ld_send(int), ld_eewr(int, int);\n",
+    )?;
     text.extend_from_slice(b"static int f, m, r, t, e, h, ha, hn, x;\n")
 }
 
@@ -119,9 +123,15 @@ fn push_names(
 fn push_functions(text: &mut Vec<u8>) -> Result<(), AllocError>
     ensures { OnOk result (text.new.items ≡ text.old.items ++ functions_text) }
 {
-    text.extend_from_slice(b"static int w16(long n) { n &= 65535; return (int)(n > 32767 ? n - 65536 : n); }\n")?;
-    text.extend_from_slice(b"static int d16(long a, long b) { return b == 0 ? 0 : w16(a / b); }\n")?;
-    text.extend_from_slice(b"static int ck(void) { if (e) return 1; if (h) { ld_eewr(ha, hn); h = 0; e = 1; return 1; } return 0; }\n")
+    text.extend_from_slice(
+        b"static int w16(long n) { n &= 65535; return (int)(n > 32767 ? n - 65536 : n); }\n",
+    )?;
+    text.extend_from_slice(
+        b"static int d16(long a, long b) { return b == 0 ? 0 : w16(a / b); }\n",
+    )?;
+    text.extend_from_slice(
+        b"static int ck(void) { if (e) return 1; if (h) { ld_eewr(ha, hn); h = 0; e = 1; return 1; } return 0; }\n",
+    )
 }
 
 /// Appends the function of a cycle.
@@ -143,7 +153,8 @@ fn push_cycle(
     text.extend_from_slice(b"r = ld_rx(); t = ld_tx(); e = ld_eebusy(); m = 1;\n")?;
     push_rungs(alloc, text, layout, rungs)?;
     push_each_at(alloc, text, "ld_out(#, b_@);\n", names.outputs.as_slice())?;
-    text.extend_from_slice(b"}\n")
+    text.extend_from_slice(b"}\n")?;
+    Ok(())
 }
 
 /// Appends the text of the rungs. Each begins on the master relay bit.
