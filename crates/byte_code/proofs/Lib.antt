@@ -5,3 +5,4 @@ pub mod Steps
 pub mod Ways
 pub mod SampleLemmas
 pub mod ListedLemmas
+pub mod ScratchLemmas

@@ -1,9 +1,10 @@
 -- Which primitives code for a project may have: cells that are the project's or the compiler's, and pins and devices by what is done to them.
-use Rattle.std.specs.Prelude.{ℕ, suc, ◌+◌, ◌==◌, nat_lt, nat_le, ◌&&◌, ◌||◌, Bool, true, false, List}
+use Rattle.std.specs.Prelude.{ℕ, suc, ◌+◌, ◌==◌, nat_lt, nat_le, ◌&&◌, ◌||◌, Bool, true, false, List, [], ◌∷◌, Option, Some, None}
 use Rattle.std.specs.List.{list_any, list_all}
 use Rattle.chip_tables.specs.Memory.{ram_ranges, holds, eeprom_size}
 use Rattle.chip_tables.specs.declared.pic16.TheConstants.{SCRATCH_FIRST, SCRATCH_END}
 use Rattle.chip_tables.specs.declared.pins.PortBit.{PortBit}
+use Rattle.chip_tables.specs.declared.scratch.Scratch.{Scratch}
 use Rattle.chip_tables.specs.declared.target.Target.{Target}
 use Rattle.chip_tables.specs.declared.target.Target.TheVariants.{F628, F877, Mega16, Interp, AnsiC}
 use Rattle.byte_code.specs.declared.prim.BitSource.{BitSource}
@@ -50,6 +51,19 @@ is_scratch F877 a = nat_le SCRATCH_FIRST a && nat_lt a SCRATCH_END
 is_scratch Mega16 a = a == 0 || (nat_le 2 a && nat_lt a 16 || (nat_le 20 a && nat_lt a 28 || nat_le 30 a && nat_lt a 32))
 is_scratch Interp a = false
 is_scratch AnsiC a = false
+
+abbrev pub is_scratch_word : Target → ℕ → Bool
+is_scratch_word t a = is_scratch t a && is_scratch t (a + 1)
+
+abbrev pub is_scratch_if_any : Target → Option ℕ → Bool
+is_scratch_if_any t None = true
+is_scratch_if_any t (Some a) = is_scratch t a
+
+-- what the compiler keeps is in cells of its own
+abbrev pub keeps_to_scratch : Target → Scratch → Bool
+keeps_to_scratch t s =
+    list_all (is_scratch_word t) (s.left ∷ s.right ∷ s.outcome ∷ [])
+    && (list_all (is_scratch t) (s.count ∷ s.sign ∷ s.answer.address ∷ s.pending_low ∷ s.pending_byte ∷ []) && is_scratch_if_any t s.pending_high)
 
 -- a cell that code may use: one of the list for variables and bits, or one of the compiler's
 abbrev pub is_cell : Outfit → ℕ → Bool

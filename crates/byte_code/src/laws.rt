@@ -1,6 +1,10 @@
 //! Laws of the byte machine, each the contract of a function that does nothing.
 
-ghost use Rattle.std.specs.Prelude.{◌≡◌, true, false, List, [], ◌∷◌, Bool};
+ghost use Rattle.std.specs.Prelude.{◌≡◌, ◌<◌, ℕ, true, false, List, [], ◌∷◌, Bool, Some};
+ghost use Rattle.chip_tables.specs.Scratch.{scratch_of, wire_of};
+ghost use Rattle.chip_tables.specs.declared.scratch.CellBit.{CellBit};
+ghost use Rattle.chip_tables.specs.declared.scratch.Scratch.{Scratch};
+ghost use Rattle.chip_tables.specs.declared.target.Target.{Target};
 ghost use Rattle.chip_tables.specs.declared.target.Target.TheVariants.{Mega16};
 ghost use Rattle.byte_code.specs.Lowered.{IsListed, Cpy, Fi};
 ghost use Rattle.chip_tables.specs.declared.mega16.TheConstants.{SRAM_FIRST};
@@ -8,7 +12,7 @@ ghost use Rattle.chip_tables.specs.declared.outside.PinReading.{PinReading};
 ghost use Rattle.byte_code.specs.declared.state.Bytes.{Bytes};
 ghost use Rattle.byte_code.specs.Store.{word_at};
 ghost use Rattle.byte_code.specs.Counts.{KeepsCounts};
-ghost use Rattle.byte_code.specs.Admitted.{admits};
+ghost use Rattle.byte_code.specs.Admitted.{admits, is_scratch, keeps_to_scratch};
 ghost use Rattle.byte_code.specs.Samples.{copier, by_twos, IsFresh, AtPolls, IsCopied, IsByTwos, one_to_one, other_way};
 ghost use Rattle.std.specs.List.{list_all};
 
@@ -35,4 +39,10 @@ pub fn samples_are_admitted()
 pub fn copier_is_listed()
     ensures listed { IsListed Mega16 0 [] (Cpy false false ∷ []) copier }
     ensures less { IsListed Mega16 0 [] (Fi ∷ []) copier → ⊥ }
+{}
+
+/// The wires are bits of the compiler's cells, and all else that it keeps is in them, so that code may use them.
+pub fn scratch_is_the_compilers()
+    ensures wires { (t : Target) (w : ℕ) (c : CellBit) → wire_of t w ≡ Some c → (is_scratch t c.address ≡ true) × (c.bit < 8) }
+    ensures cells { (t : Target) (s : Scratch) → scratch_of t ≡ Some s → keeps_to_scratch t s ≡ true }
 {}
