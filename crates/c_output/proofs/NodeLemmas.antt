@@ -10,7 +10,7 @@ use Rattle.ladder_tree.specs.declared.project.Rung.{Rung}
 use Rattle.ladder_tree.proofs.FoldLemmas.{fold-Leaf, fold-Series, fold-Parallel}
 use Rattle.c_output.specs.Element.{Terms}
 use Rattle.c_output.specs.Filled.{numbered}
-use Rattle.c_output.specs.Node.{Part, series, branches, parallel, part_step, part, series_of, branches_of, rungs_text, memories_of}
+use Rattle.c_output.specs.Node.{Part, series, branches, part_step, part, series_of, branches_of, rungs_text, memories_of}
 use Rattle.c_output.proofs.TextLemmas.{front}
 
 -- pieces behind a text, one by one

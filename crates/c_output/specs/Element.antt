@@ -100,6 +100,20 @@ persist_text name address =
     filled load_template name (decimal address) (decimal (address + 1))
     ++ (filled differs_template name (decimal address) (decimal (address + 1)) ++ filled save_template name (decimal address) (decimal (address + 1)))
 
+-- # is the number of the analog input
+abbrev pub adc_template : List ℕ
+adc_template = codes "if (f) v_@ = ld_adc(#);\n"
+
+-- # is hertz
+abbrev pub pwm_template : List ℕ
+pwm_template = codes "if (f) ld_pwm(v_@ < 0 ? 0 : v_@ > 100 ? 100 : v_@, #L);\n"
+
+abbrev pub recv_template : List ℕ
+recv_template = codes "if (f && r >= 0) { v_@ = r; r = -1; } else f = 0;\n"
+
+abbrev pub send_template : List ℕ
+send_template = codes "if (f && !t) { ld_send(v_@ & 255); t = 1; } f = t;\n"
+
 -- an element behind k memories
 abbrev pub element_text : Terms → LeafKind → ℕ → List ℕ
 element_text p (Contacts name neg) k = named (contact_template neg) name
@@ -116,10 +130,10 @@ element_text p (Math how dest a b) k = filled (math_template how) dest (operand_
 element_text p (Compare how a b) k = filled (compare_template how) [] (operand_text a) (operand_text b)
 element_text p (Shift name places) k = shift_text name places k
 element_text p (Table dest index as_text values) k = table_text dest (operand_text index) values
-element_text p (ReadAdc name) k = filled (codes "if (f) v_@ = ld_adc(#);\n") name (decimal (place_of p.analog name)) []
-element_text p (SetPwm name hz) k = filled (codes "if (f) ld_pwm(v_@ < 0 ? 0 : v_@ > 100 ? 100 : v_@, #L);\n") name (decimal hz) []
-element_text p (Recv name) k = named (codes "if (f && r >= 0) { v_@ = r; r = -1; } else f = 0;\n") name
-element_text p (Send name) k = named (codes "if (f && !t) { ld_send(v_@ & 255); t = 1; } f = t;\n") name
+element_text p (ReadAdc name) k = filled adc_template name (decimal (place_of p.analog name)) []
+element_text p (SetPwm name hz) k = filled pwm_template name (decimal hz) []
+element_text p (Recv name) k = named recv_template name
+element_text p (Send name) k = named send_template name
 element_text p (Persist name) k = persist_text name (address_of p.persistent name)
 -- these have none
 element_text p Short k = []

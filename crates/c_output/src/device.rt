@@ -1,11 +1,11 @@
 //! The C text of elements that work on devices: analog inputs, the PWM, the serial line and the EEPROM.
 
-ghost use Rattle.std.specs.Prelude.{◌≡◌, ◌++◌, OnOk, [], codes};
+ghost use Rattle.std.specs.Prelude.{◌≡◌, ◌++◌, OnOk, []};
 ghost use Rattle.std.specs.Fmt.{decimal};
 ghost use Rattle.ladder_meaning.specs.Persist.{address_of};
 ghost use Rattle.ladder_meaning.specs.State.{place_of};
 ghost use Rattle.ladder_lower.specs.Wires.{Fits};
-ghost use Rattle.c_output.specs.Element.{persist_text};
+ghost use Rattle.c_output.specs.Element.{adc_template, pwm_template, recv_template, send_template, persist_text};
 ghost use Rattle.c_output.specs.Filled.{filled, named};
 
 use crate::filled::{push_named, push_pair, push_sized};
@@ -21,7 +21,7 @@ pub fn push_adc(
     name: &Name,
 ) -> Result<(), AllocError>
     requires { Fits layout.now 0 }
-    ensures { OnOk result (text.new.items ≡ text.old.items ++ filled (codes "if (f) v_@ = ld_adc(#);\n") name.now (decimal (place_of layout.now.analog name.now)) []) }
+    ensures { OnOk result (text.new.items ≡ text.old.items ++ filled adc_template name.now (decimal (place_of layout.now.analog name.now)) []) }
 {
     let place = layout.analog_of(name) as usize;
     push_sized(alloc, text, "if (f) v_@ = ld_adc(#);\n", name, place)
@@ -29,7 +29,7 @@ pub fn push_adc(
 
 /// SET_PWM sets the duty where there is power.
 pub fn push_pwm(alloc: Global, text: &mut Vec<u8>, name: &Name, hz: u32) -> Result<(), AllocError>
-    ensures { OnOk result (text.new.items ≡ text.old.items ++ filled (codes "if (f) ld_pwm(v_@ < 0 ? 0 : v_@ > 100 ? 100 : v_@, #L);\n") name.now (decimal hz) []) }
+    ensures { OnOk result (text.new.items ≡ text.old.items ++ filled pwm_template name.now (decimal hz) []) }
 {
     let template = "if (f) ld_pwm(v_@ < 0 ? 0 : v_@ > 100 ? 100 : v_@, #L);\n";
     push_sized(alloc, text, template, name, hz as usize)
@@ -37,7 +37,7 @@ pub fn push_pwm(alloc: Global, text: &mut Vec<u8>, name: &Name, hz: u32) -> Resu
 
 /// UART_RECV takes a byte where there is power and one that was not taken.
 pub fn push_recv(text: &mut Vec<u8>, name: &Name) -> Result<(), AllocError>
-    ensures { OnOk result (text.new.items ≡ text.old.items ++ named (codes "if (f && r >= 0) { v_@ = r; r = -1; } else f = 0;\n") name.now) }
+    ensures { OnOk result (text.new.items ≡ text.old.items ++ named recv_template name.now) }
 {
     let template = "if (f && r >= 0) { v_@ = r; r = -1; } else f = 0;\n";
     push_named(text, template, name)
@@ -45,7 +45,7 @@ pub fn push_recv(text: &mut Vec<u8>, name: &Name) -> Result<(), AllocError>
 
 /// UART_SEND sends a byte where there is power and the transmitter does not send.
 pub fn push_send(text: &mut Vec<u8>, name: &Name) -> Result<(), AllocError>
-    ensures { OnOk result (text.new.items ≡ text.old.items ++ named (codes "if (f && !t) { ld_send(v_@ & 255); t = 1; } f = t;\n") name.now) }
+    ensures { OnOk result (text.new.items ≡ text.old.items ++ named send_template name.now) }
 {
     let template = "if (f && !t) { ld_send(v_@ & 255); t = 1; } f = t;\n";
     push_named(text, template, name)

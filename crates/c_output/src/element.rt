@@ -1,8 +1,9 @@
 //! The C text of elements. An element finds its input in `f`, and leaves its output there.
 
-ghost use Rattle.std.specs.Prelude.{◌≡◌, ◌≢◌, ◌+◌, ◌<◌, ◌^◌, ◌++◌, OnOk, drop};
+ghost use Rattle.std.specs.Prelude.{◌≡◌, ◌≢◌, ◌++◌, OnOk};
 ghost use Rattle.ladder_lower.specs.Wires.{Fits};
-ghost use Rattle.c_output.specs.Element.{contact_template, coil_template, timer_template, counter_template, moves_text, shift_text, cases_text, table_text, element_text};
+ghost use Rattle.c_output.specs.Element.{contact_template, coil_template, timer_template, counter_template};
+ghost use Rattle.c_output.specs.Element.{moves_text, shift_text, cases_text, table_text, element_text};
 ghost use Rattle.c_output.specs.Laid.{terms_of};
 ghost use Rattle.c_output.specs.Operand.{operand_text};
 

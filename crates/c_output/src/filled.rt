@@ -1,6 +1,6 @@
 //! Templates: C text with a mark where a name or a number stands.
 
-ghost use Rattle.std.specs.Prelude.{◌≡◌, ◌++◌, OnOk, [], replicate};
+ghost use Rattle.std.specs.Prelude.{◌≡◌, ◌++◌, OnOk, []};
 ghost use Rattle.std.specs.Fmt.{decimal, signed_decimal};
 ghost use Rattle.c_output.specs.Filled.{standing, filled, named, numbered, each, each_at, each_number};
 

@@ -1,5 +1,4 @@
 use Rattle.std.proofs.Common.{ap, ◌∙◌, arith}
-use Rattle.ladder_tree.specs.declared.names.Names.{Names}
 use Rattle.ldmicro_top.specs.Report.{c_report}
 use Rattle.ldmicro_top.proofs.TargetLemmas.{text_only, carries_c, reports_c}
 use Rattle.ldmicro_top.proofs.compile.compile_c.Goals as goal
