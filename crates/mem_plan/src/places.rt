@@ -26,6 +26,18 @@ pub struct PortBit16 {
 }
 
 impl Plan {
+    pub fn target(&self) -> Target
+        ensures { result ≡ self.now.target }
+    {
+        self.target
+    }
+
+    pub fn sizes(&self) -> Sizes
+        ensures { result ≡ self.now.sizes }
+    {
+        self.sizes
+    }
+
     /// The address of a byte of those that the variables and bits take.
     fn byte(&self, index: u32) -> u16
         requires chip { IsChip self.now.target }

@@ -1,0 +1,133 @@
+-- Where the parts of a program's code are, and how often their primitives may be begun.
+use Rattle.std.proofs.Common.{◌≡◌, ℕ, zero, suc, ◌+◌, ◌<◌, ◌≤◌, inl, inr, Bool, true, false, cond, List, [], ◌∷◌, ◌++◌, drop, Some, refl, sym, ap, subst, ◌∙◌, arith, append_assoc}
+use Rattle.std.specs.Prelude.{◌⊎◌, ◌==◌, slice_get, if◌then◌else◌, int_lt, ℤ, pos}
+use Rattle.std.specs.Ordering.{int_eq}
+use Rattle.int_code.specs.declared.op.IntOp.{IntOp}
+use Rattle.int_code.specs.declared.op.IntOp.TheVariants.{Set, Clr, Cpy, Not, Ifs, Ifc, Iflt, Ifeq, Els, Fi, Lit, Mov, Add, Sub, Inc, Dec}
+use Rattle.int_code.specs.declared.op.NumSource.{NumSource}
+use Rattle.int_code.specs.declared.op.NumSource.TheVariants.{V, N}
+use Rattle.int_code.specs.Shapes.{shape_of}
+use Rattle.byte_code.specs.declared.prim.Paced.{Paced}
+use Rattle.byte_code.specs.declared.prim.Shape.TheVariants.{AtPoll}
+use Rattle.byte_code.specs.Table as table
+use Rattle.byte_code.proofs.Times.{times, times-cons}
+use Rattle.byte_lower.proofs.RouteLemmas.{along, HasNoNames}
+use Rattle.byte_lower.specs.Code.{start_values}
+use Rattle.byte_lower.specs.Lists.{label_of, list_of, lists_of, top_of, labels_behind, unless_less, unless_equal, sum, difference, put, number}
+use Rattle.byte_lower.specs.declared.layout.Layout.{Layout}
+
+-- a fact of each primitive
+abbrev pub Every : (Paced → Type 0) → List Paced → Type 0
+Every P [] = Unit {0}
+Every P (p ∷ ps) = P p × Every P ps
+
+pub every_on : (P : Paced → Type 0) (ps qs : List Paced) → Every P ps → Every P qs → Every P (ps ++ qs)
+every_on P [] qs h g = g
+every_on P (p ∷ ps) qs h g = (h.0, every_on P ps qs h.1 g)
+
+either : (P : Paced → Type 0) (b : Bool) (ps qs : List Paced) → Every P ps → Every P qs → Every P (if b then ps else qs)
+either P true ps qs h g = h
+either P false ps qs h g = g
+
+-- each is begun once at most in a cycle
+abbrev pub TurnsOnce : Paced → Type 0
+TurnsOnce p = p.turns ≡ 1
+
+-- each is begun once at most in front of the first reading
+abbrev pub BootsOnce : Paced → Type 0
+BootsOnce p = p.boot ≡ 1
+
+abbrev pub IsNoPoll : Paced → Type 0
+IsNoPoll p = table.shape_of p.prim ≡ AtPoll → ⊥
+
+less_turns : (o : Layout) (w u : NumSource) (l : ℕ) → Every TurnsOnce (unless_less o w u l)
+less_turns o (V a) (V b) l = (refl, (refl, tt))
+less_turns o (V a) (N m) l = (refl, (refl, tt))
+less_turns o (N n) (V b) l = either TurnsOnce (int_lt n (pos 32767)) _ _ (refl, (refl, tt)) (refl, tt)
+less_turns o (N n) (N m) l = either TurnsOnce (int_lt n m) _ _ tt (refl, tt)
+
+equal_turns : (o : Layout) (w u : NumSource) (l : ℕ) → Every TurnsOnce (unless_equal o w u l)
+equal_turns o (V a) (V b) l = (refl, (refl, tt))
+equal_turns o (V a) (N m) l = (refl, (refl, tt))
+equal_turns o (N n) (V b) l = (refl, (refl, tt))
+equal_turns o (N n) (N m) l = either TurnsOnce (int_eq n m) _ _ tt (refl, tt)
+
+sum_turns : (o : Layout) (v : ℕ) (w u : NumSource) → Every TurnsOnce (sum o v w u ∷ [])
+sum_turns o v (V a) (V b) = (refl, tt)
+sum_turns o v (V a) (N m) = (refl, tt)
+sum_turns o v (N n) (V b) = (refl, tt)
+sum_turns o v (N n) (N m) = (refl, tt)
+
+difference_turns : (o : Layout) (v : ℕ) (w u : NumSource) → Every TurnsOnce (difference o v w u ∷ [])
+difference_turns o v (V a) (V b) = (refl, tt)
+difference_turns o v (V a) (N m) = (refl, tt)
+difference_turns o v (N n) (V b) = (refl, tt)
+difference_turns o v (N n) (N m) = (refl, tt)
+
+list_turns : (o : Layout) (op : IntOp) (l top : ℕ) → Every TurnsOnce (list_of o op l top)
+list_turns o (Set b) l top = (refl, tt)
+list_turns o (Clr b) l top = (refl, tt)
+list_turns o (Cpy b f) l top = (refl, tt)
+list_turns o (Not b f) l top = (refl, tt)
+list_turns o (Ifs f) l top = (refl, tt)
+list_turns o (Ifc f) l top = (refl, tt)
+list_turns o (Iflt w u) l top = less_turns o w u l
+list_turns o (Ifeq w u) l top = equal_turns o w u l
+list_turns o Els l top = (refl, (refl, tt))
+list_turns o Fi l top = (refl, tt)
+list_turns o (Lit v n) l top = (refl, tt)
+list_turns o (Mov v f) l top = (refl, tt)
+list_turns o (Add v w u) l top = sum_turns o v w u
+list_turns o (Sub v w u) l top = difference_turns o v w u
+list_turns o (Inc v) l top = (refl, tt)
+list_turns o (Dec v) l top = (refl, tt)
+list_turns o op l top = tt
+
+pub lists_turn : (o : Layout) (ops : List IntOp) (k : ℕ) (labels : List ℕ) → Every TurnsOnce (lists_of o ops k labels)
+lists_turn o [] k labels = tt
+lists_turn o (op ∷ ops) k labels =
+    every_on TurnsOnce (list_of o op (label_of k) (top_of labels)) (lists_of o ops (suc k) (labels_behind (shape_of op) k labels)) (list_turns o op (label_of k) (top_of labels)) (lists_turn o ops (suc k) (labels_behind (shape_of op) k labels))
+
+-- the start values are begun in front of the first reading, wait for nothing and have no labels
+pub starts_boot : (o : Layout) (ns : List ℤ) (v : ℕ) → Every BootsOnce (start_values o ns v)
+starts_boot o [] v = tt
+starts_boot o (n ∷ ns) v = either BootsOnce (int_eq n (pos 0)) _ _ (starts_boot o ns (suc v)) (refl, starts_boot o ns (suc v))
+
+pub starts_wait : (o : Layout) (ns : List ℤ) (v : ℕ) → Every IsNoPoll (start_values o ns v)
+starts_wait o [] v = tt
+starts_wait o (n ∷ ns) v = either IsNoPoll (int_eq n (pos 0)) _ _ (starts_wait o ns (suc v)) ((λ e. absurd (cc e)), starts_wait o ns (suc v))
+
+pub starts_names : (o : Layout) (ns : List ℤ) (v : ℕ) → HasNoNames (start_values o ns v)
+starts_names o [] v = tt
+starts_names o (n ∷ ns) v = by (int_eq n (pos 0)) _ (starts_names o ns (suc v))
+  where
+    by : (b : Bool) (ps : List Paced) → HasNoNames ps → HasNoNames (if b then ps else record (put o v (number n)) { boot = 1; turns = 0 } ∷ ps)
+    by true ps h = h
+    by false ps h = ((λ l. refl), h)
+
+pub along_is : (at : ℕ) (ps : List Paced) → (at ≤ along at ps) × ((n : ℕ) → along (n + at) ps ≡ n + along at ps)
+along_is at [] = (omega arith, λ n. refl)
+along_is at (p ∷ ps) =
+    let h = along_is (suc at) ps in
+    (omega (arith, h.0), λ n. let e : suc (n + at) ≡ n + suc at = omega arith in ap (λ m. along m ps) e ∙ h.1 n)
+
+-- of each primitive in front of a place
+pub in_front : (P : Paced → Type 0) (at : ℕ) (front rest : List Paced) (i : ℕ) (p : Paced) → Every P front → at + i < along at front → slice_get (front ++ rest) i ≡ Some p → P p
+in_front P at [] rest i p h lt e = absurd (omega (arith, lt))
+in_front P at (q ∷ front) rest zero p h lt e = let f : q ≡ p = cc in subst P f h.0
+in_front P at (q ∷ front) rest (suc i) p h lt e =
+    let f : suc at + i ≡ at + suc i = omega arith in
+    in_front P (suc at) front rest i p h.1 (subst (λ n. n < along (suc at) front) (sym f) lt) e
+
+-- of each from a place on
+pub from_place : (P : Paced → Type 0) (code : List Paced) (n i : ℕ) (p : Paced) → Every P (drop n code) → n ≤ i → slice_get code i ≡ Some p → P p
+from_place P [] n i p h le e = absurd (cc)
+from_place P (q ∷ code) zero zero p h le e = let f : q ≡ p = cc in subst P f h.0
+from_place P (q ∷ code) zero (suc i) p h le e = from_place P code zero i p h.1 (omega arith) e
+from_place P (q ∷ code) (suc n) zero p h le e = absurd (omega (arith, le))
+from_place P (q ∷ code) (suc n) (suc i) p h le e = from_place P code n i p h (omega (arith, le)) e
+
+-- counts of places add up
+pub times_on : (i : ℕ) (xs ys : List ℕ) → times i (xs ++ ys) ≡ times i xs + times i ys
+times_on i [] ys = omega arith
+times_on i (x ∷ xs) ys = omega (arith, times-cons i x (xs ++ ys), times-cons i x xs, times_on i xs ys)

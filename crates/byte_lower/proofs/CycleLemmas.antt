@@ -1,0 +1,237 @@
+-- The runs of a program's code, cycle by cycle.
+use Rattle.std.proofs.Common.{◌≡◌, ℕ, zero, suc, ◌+◌, ◌<◌, ◌≤◌, inl, inr, Bool, true, false, List, [], ◌∷◌, ◌++◌, drop, length, map, Some, None, ℤ, refl, sym, ap, subst, ◌∙◌, arith, append_assoc}
+use Rattle.std.specs.Prelude.{slice_get, slice_index, nat_le}
+use Rattle.std.proofs.lemmas.Bool.Decides.{nat_tests}
+use Rattle.chip_tables.specs.Memory.{ram_size}
+use Rattle.chip_tables.specs.declared.outside.PinReading.{PinReading}
+use Rattle.mem_plan.specs.Needs.{ram_need}
+use Rattle.mem_plan.specs.Places.{IsChip}
+use Rattle.ladder_meaning.specs.declared.reading.Reading.{Reading}
+use Rattle.int_code.specs.Meaning.{Moment, begin, cycle, run}
+use Rattle.int_code.specs.Store as int
+use Rattle.int_code.specs.declared.op.IntOp.{IntOp}
+use Rattle.int_code.specs.declared.op.IntProgram.{IntProgram}
+use Rattle.byte_code.specs.declared.prim.BytePrim.TheVariants.{Start, CyclePoll, Label, Jump}
+use Rattle.byte_code.specs.declared.prim.Paced.{Paced}
+use Rattle.byte_code.specs.declared.prim.Shape.TheVariants.{AtPoll}
+use Rattle.byte_code.specs.declared.state.Bytes.{Bytes}
+use Rattle.byte_code.specs.declared.store.Store.{Store}
+use Rattle.byte_code.specs.Counts.{allowed}
+use Rattle.byte_code.specs.Machine.{label_place, next_with, polled}
+use Rattle.byte_code.specs.Table.{effect, plain}
+use Rattle.byte_code.specs.Table as table
+use Rattle.byte_code.proofs.Times.{times}
+use Rattle.byte_code.proofs.Ways.{Way, there, acts, way_on, Segment, Polls, keeps_counts, at_each}
+use Rattle.byte_lower.proofs.BootLemmas.{started_store, seen_levels, booted_start}
+use Rattle.byte_lower.proofs.CodeLemmas.{Every, every_on, TurnsOnce, BootsOnce, IsNoPoll, lists_turn, starts_boot, starts_wait, starts_names, in_front, from_place, times_on}
+use Rattle.byte_lower.proofs.PlaceLemmas.{places_apart}
+use Rattle.byte_lower.proofs.RouteLemmas.{Rises, none_before, once, none_behind, along, along_on, HasNoNames, Ahead, Reaches, here, behind, pass, pass_all, found, beyond}
+use Rattle.byte_lower.proofs.StoreLemmas.{Good, any_flag}
+use Rattle.byte_lower.proofs.WalkLemmas.{Marks, other_label, walk}
+use Rattle.byte_lower.specs.Code.{booted, polling, start_values, code_of, CanPlace, IsFresh, IsStart, store_behind, RunsAs, Carries}
+use Rattle.byte_lower.specs.Layout.{HasPins}
+use Rattle.byte_lower.specs.Lists.{paced, lists_of}
+use Rattle.byte_lower.specs.Stands.{Stands, seen}
+use Rattle.byte_lower.specs.declared.layout.Layout.{Layout}
+
+-- the store behind one cycle more
+behind_on : (ops : List IntOp) (t : int.Store) (rs : List Reading) (k : ℕ) (r : Reading) → slice_get rs k ≡ Some r → store_behind ops t rs (suc k) ≡ (cycle r ops (store_behind ops t rs k)).store
+behind_on ops t [] k r e = absurd (cc)
+behind_on ops t (x ∷ rs) zero r e = let f : x ≡ r = cc in ap (λ y. (cycle y ops t).store) f
+behind_on ops t (x ∷ rs) (suc k) r e = behind_on ops (cycle x ops t).store rs k r e
+
+seen_at : (o : Layout) (readings : List PinReading) (k : ℕ) (r : PinReading) → slice_get readings k ≡ Some r → slice_get (map (seen o) readings) k ≡ Some (seen o r)
+seen_at o [] k r e = absurd (cc)
+seen_at o (x ∷ xs) zero r e = let f : x ≡ r = cc in ap (λ y. Some (seen o y)) f
+seen_at o (x ∷ xs) (suc k) r e = seen_at o xs k r e
+
+module _ (o : Layout) (p : IntProgram) (can : CanPlace o p) (c : IsChip o.plan.target) (room : ram_need o.plan.sizes ≤ ram_size o.plan.target) where
+  abbrev code : List Paced
+  code = code_of o p
+
+  -- what stands in front of the label, the lists, and where the label, the first list and the jump are
+  abbrev front : List Paced
+  front = booted (Start (ram_need o.plan.sizes)) ∷ start_values o p.starts 0
+
+  abbrev lists : List Paced
+  lists = lists_of o p.ops 0 []
+
+  abbrev loop : ℕ
+  loop = along 0 front
+
+  abbrev last : ℕ
+  last = along (suc (suc loop)) lists
+
+  at_loop : drop loop code ≡ polling (Label 0) ∷ polling (CyclePoll 0) ∷ (lists ++ paced (Jump 0) ∷ [])
+  at_loop = beyond code 0 front (polling (Label 0) ∷ polling (CyclePoll 0) ∷ (lists ++ paced (Jump 0) ∷ [])) refl
+
+  at_poll_place : drop (suc loop) code ≡ polling (CyclePoll 0) ∷ (lists ++ paced (Jump 0) ∷ [])
+  at_poll_place = behind code loop (polling (Label 0)) (polling (CyclePoll 0) ∷ (lists ++ paced (Jump 0) ∷ [])) at_loop
+
+  at_lists : drop (suc (suc loop)) code ≡ lists ++ paced (Jump 0) ∷ []
+  at_lists = behind code (suc loop) (polling (CyclePoll 0)) (lists ++ paced (Jump 0) ∷ []) at_poll_place
+
+  at_jump : drop last code ≡ paced (Jump 0) ∷ []
+  at_jump = beyond code (suc (suc loop)) lists (paced (Jump 0) ∷ []) at_lists
+
+  front_names : HasNoNames front
+  front_names = ((λ l. refl), starts_names o p.starts 0)
+
+  ahead_loop : (l : ℕ) → Ahead code loop l
+  ahead_loop l = pass_all code 0 l front (polling (Label 0) ∷ polling (CyclePoll 0) ∷ (lists ++ paced (Jump 0) ∷ [])) refl front_names (omega arith)
+
+  loop_is : label_place code 0 ≡ loop
+  loop_is = found code loop 0 (polling (Label 0)) (polling (CyclePoll 0) ∷ (lists ++ paced (Jump 0) ∷ [])) at_loop refl (ahead_loop 0)
+
+  marks : Marks code (suc (suc loop)) 0 []
+  marks = record {
+    later = λ l h. pass code (suc loop) l (polling (CyclePoll 0)) (lists ++ paced (Jump 0) ∷ []) at_poll_place refl
+        (pass code loop l (polling (Label 0)) (polling (CyclePoll 0) ∷ (lists ++ paced (Jump 0) ∷ [])) at_loop (other_label 0 l (λ e. omega (arith, e, h))) (ahead_loop l));
+    ahead = tt;
+    falls = tt;
+  }
+
+  boots_once : (i : ℕ) (q : Paced) → slice_get code i ≡ Some q → i ≤ suc loop → q.boot ≡ 1
+  boots_once i q e le =
+      let head = polling (Label 0) ∷ polling (CyclePoll 0) ∷ [] in
+      let same : code ≡ (front ++ head) ++ (lists ++ paced (Jump 0) ∷ []) = sym (append_assoc front head (lists ++ paced (Jump 0) ∷ [])) in
+      in_front BootsOnce 0 (front ++ head) (lists ++ paced (Jump 0) ∷ []) i q (every_on BootsOnce front head (refl, starts_boot o p.starts 0) (refl, (refl, tt)))
+      (omega (arith, along_on 0 front head, le)) (ap (λ x. slice_get x i) (sym same) ∙ e)
+
+  turns_once : (i : ℕ) (q : Paced) → slice_get code i ≡ Some q → loop ≤ i → q.turns ≡ 1
+  turns_once i q e le =
+      from_place TurnsOnce code loop i q (subst (Every TurnsOnce) (sym at_loop) (refl, (refl, every_on TurnsOnce lists (paced (Jump 0) ∷ []) (lists_turn o p.ops 0 []) (refl, tt)))) le e
+
+  polls_turn : (i : ℕ) (q : Paced) → slice_get code i ≡ Some q → table.shape_of q.prim ≡ AtPoll → 1 ≤ q.turns
+  polls_turn i q e poll = by (nat_le loop i) refl
+    where
+      by : (b : Bool) → nat_le loop i ≡ b → 1 ≤ q.turns
+      by true f = omega (arith, turns_once i q e (grind (arith, nat_tests, f)))
+      by false f =
+          let lt : i < loop = grind (arith, nat_tests, f) in
+          absurd (in_front IsNoPoll 0 front (polling (Label 0) ∷ polling (CyclePoll 0) ∷ (lists ++ paced (Jump 0) ∷ [])) i q ((λ x. absurd (cc x)), starts_wait o p.starts 0) (omega (arith, lt)) e poll)
+
+  module _ (readings : List PinReading) (t : int.Store) where
+    -- at the poll, after k readings
+    record AtCycle (k : ℕ) (s : Bytes) : Type 0 where
+      is_at : s.place ≡ suc loop
+      closed : s.open_call ≡ None
+      stands : Stands o s.store (store_behind p.ops t (map (seen o) readings) k)
+      cells : length s.store.cells ≡ 1120
+      latches : length s.store.latches ≡ 5
+      shown : s.store.converting ≡ false
+
+    abbrev silent : ℕ → List ℕ
+    silent k = []
+
+    polls_at : (k : ℕ) (s : Bytes) → AtCycle k s → Polls code readings AtCycle silent s
+    polls_at k s h = record { p = polling (CyclePoll 0); at = ap (slice_get code) h.is_at ∙ here code (suc loop) (polling (CyclePoll 0)) (lists ++ paced (Jump 0) ∷ []) at_poll_place; polls = refl; fits = (tt, tt) }
+
+    -- the places that the jump back begins
+    abbrev back : List ℕ
+    back = label_place code 0 ∷ suc (label_place code 0) ∷ []
+
+    module _ (k : ℕ) (s : Bytes) (r : PinReading) (h : AtCycle k s) (read : slice_get readings k ≡ Some r) where
+      abbrev store_k : int.Store
+      store_k = store_behind p.ops t (map (seen o) readings) k
+
+      abbrev ended : Moment
+      ended = cycle (seen o r) p.ops store_k
+
+      abbrev taken : Bytes
+      taken = next_with s (record (plain s.store) { reading = r })
+
+      abbrev AtJump : Bytes → Type 0
+      AtJump e = (e.place ≡ last) × (e.open_call ≡ None) × Good o (seen o r) e.store ended.store
+
+      walked : Reaches code AtJump last taken
+      walked =
+          walk code o (seen o r) (places_apart o c room) can.pins AtJump last ended (paced (Jump 0) ∷ []) (λ e shut good place. (place, shut, good)) p.ops 0 (suc (suc loop)) [] [] (begin (seen o r) store_k) taken
+          can.built can.range can.numbers at_lists refl can.nests tt marks refl
+          (record {
+            closed = h.closed;
+            good = record {
+              stands = record { bits = h.stands.bits; outputs = h.stands.outputs; numbers = h.stands.numbers };
+              levels = seen_levels o r.levels;
+              cells = h.cells;
+              latches = h.latches;
+              shown = h.shown;
+            };
+            stands_at = inl (refl, ap suc h.is_at);
+          })
+
+      goes_back : (e : Bytes) → AtJump e → Way code (AtCycle (suc k)) e back []
+      goes_back e g =
+          acts (paced (Jump 0)) (ap (slice_get code) g.0 ∙ here code last (paced (Jump 0)) [] at_jump) refl (tt, tt)
+          (acts (polling (Label 0)) (ap (slice_get code) loop_is ∙ here code loop (polling (Label 0)) (polling (CyclePoll 0) ∷ (lists ++ paced (Jump 0) ∷ [])) at_loop) refl (tt, tt)
+          (there (record {
+            is_at = ap suc loop_is;
+            closed = g.1;
+            stands = subst (Stands o (plain (plain e.store))) (sym (behind_on p.ops t (map (seen o) readings) k (seen o r) (seen_at o readings k r read))) (any_flag o (seen o r) (places_apart o c room) can.pins e.store ended.store None g.2).stands;
+            cells = g.2.cells;
+            latches = g.2.latches;
+            shown = g.2.shown;
+          })))
+
+      few_by : (i turns : ℕ) (b d : Bool) → nat_le loop i ≡ b → nat_le i (suc loop) ≡ d → (loop ≤ i → turns ≡ 1) → times i (taken.place ∷ walked.begun) + times i back ≤ turns
+      few_by i turns true true f g once_only =
+          let le : i ≤ suc loop = grind (arith, nat_tests, g) in
+          let none = none_before (suc loop) last i (taken.place ∷ walked.begun) (omega (arith, h.is_at), walked.rises) le in
+          let one = once (label_place code 0) (suc (label_place code 0)) i (suc (label_place code 0) ∷ []) (omega arith, refl) in
+          let turn = once_only (grind (arith, nat_tests, f)) in
+          omega (arith, none, one, turn)
+      few_by i turns true false f g once_only =
+          let gt : suc loop < i = grind (arith, nat_tests, g) in
+          let none = none_behind (label_place code 0) (suc (label_place code 0)) i (suc (label_place code 0) ∷ []) (omega arith, refl) (omega (arith, loop_is, gt)) in
+          let one = once taken.place last i walked.begun walked.rises in
+          let turn = once_only (grind (arith, nat_tests, f)) in
+          omega (arith, none, one, turn)
+      few_by i turns false d f g once_only =
+          let lt : i < loop = grind (arith, nat_tests, f) in
+          let none = none_before (suc loop) last i (taken.place ∷ walked.begun) (omega (arith, h.is_at), walked.rises) (omega (arith, lt)) in
+          let none_back = none_before i (suc (label_place code 0)) i back (omega (arith, loop_is, lt), (omega arith, refl)) (omega arith) in
+          omega (arith, none, none_back)
+
+      turn_at : Segment code readings AtCycle silent (suc k) taken
+      turn_at = record {
+        begun = walked.begun ++ back;
+        way = way_on code AtJump (AtCycle (suc k)) taken walked.begun [] back [] walked.way goes_back;
+        counts = λ i q e. subst (λ n. n ≤ q.turns) (sym (times_on i (taken.place ∷ walked.begun) back)) (few_by i q.turns (nat_le loop i) (nat_le i (suc loop)) refl refl (turns_once i q e));
+      }
+
+    is_poll : (place : ℕ) (q : Paced) → place ≡ suc loop → slice_get code place ≡ Some q → polling (CyclePoll 0) ≡ q
+    is_poll place q e h =
+        let f : slice_get code (suc loop) ≡ Some q = ap (slice_get code) (sym e) ∙ h in
+        let g : slice_get code (suc loop) ≡ Some (polling (CyclePoll 0)) = here code (suc loop) (polling (CyclePoll 0)) (lists ++ paced (Jump 0) ∷ []) at_poll_place in
+        cc (f, g)
+
+    turn : (k : ℕ) (s : Bytes) (r : PinReading) → AtCycle k s → slice_get readings k ≡ Some r → (q : Paced) → slice_get code s.place ≡ Some q → Segment code readings AtCycle silent (suc k) (polled s (effect q.prim s.store) true r).next
+    turn k s r h read q at =
+        subst (λ x. Segment code readings AtCycle silent (suc k) (polled s (effect x.prim s.store) true r).next) (is_poll s.place q h.is_at at) (turn_at k s r h read)
+
+    module _ (s : Bytes) (r : Reading) (fresh : s.place ≡ 0) (reach : Reaches code (AtCycle 0) (suc loop) s) where
+      few_boots : (i boot : ℕ) (b : Bool) → nat_le i (suc loop) ≡ b → (i ≤ suc loop → boot ≡ 1) → times i (s.place ∷ reach.begun) ≤ boot
+      few_boots i boot true f once_only = omega (arith, once s.place (suc loop) i reach.begun reach.rises, once_only (grind (arith, nat_tests, f)))
+      few_boots i boot false f once_only = omega (arith, none_behind s.place (suc loop) i reach.begun reach.rises (grind (arith, nat_tests, f)))
+
+      boot : Segment code readings AtCycle silent 0 s
+      boot = record { begun = reach.begun; way = reach.way; counts = λ i q e. few_boots i q.boot (nat_le i (suc loop)) refl (boots_once i q e) }
+
+      runs : (answers : List Bool) → RunsAs o p code t s readings answers
+      runs answers = record {
+        counts = keeps_counts code readings AtCycle silent polls_at turn s answers boot polls_turn;
+        polls = λ j b q e h poll. let x = at_each code readings AtCycle silent polls_at turn s answers boot j b q e h poll in (x.0.stands, x.1);
+      }
+
+  pub carries : Carries o p code
+  carries = record {
+    each = λ s fresh.
+        let b = booted_start code (polling (CyclePoll 0) ∷ (lists ++ paced (Jump 0) ∷ [])) o p can c room (places_apart o c room) s fresh refl in (
+          b.t,
+          b.is,
+          λ readings answers.
+              runs readings b.t s (seen o (started_store o c room s.store fresh.target).reading) fresh.place
+              (b.reaches (AtCycle readings b.t 0) (λ e place shut good. record { is_at = place; closed = shut; stands = good.stands; cells = good.cells; latches = good.latches; shown = good.shown }))
+              answers,
+        );
+  }

@@ -1,0 +1,12 @@
+pub mod BitLemmas
+pub mod CellLemmas
+pub mod WordLemmas
+pub mod RouteLemmas
+pub mod StoreLemmas
+pub mod GoLemmas
+pub mod StepLemmas
+pub mod WalkLemmas
+pub mod PlaceLemmas
+pub mod CodeLemmas
+pub mod BootLemmas
+pub mod CycleLemmas

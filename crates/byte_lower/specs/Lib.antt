@@ -1,0 +1,6 @@
+-- what a reader of the promises must believe
+pub mod Layout
+pub mod Stands
+pub mod Code
+-- the list of each operation
+pub mod Lists

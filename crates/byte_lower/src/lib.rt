@@ -1,0 +1,9 @@
+//! From flat operations to code of the byte machine.
+#![tactic(auto)]
+
+pub mod layout;
+mod numbers;
+pub mod operation;
+mod places;
+pub mod program;
+mod push;

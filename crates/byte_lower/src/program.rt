@@ -1,0 +1,135 @@
+//! The code of a program.
+
+ghost use Rattle.std.specs.Prelude.{◌≡◌, ◌≤◌, ◌<◌, ◌^◌, ◌+◌, ◌++◌, [], length, reverse, true, All, IfOk, OnOk};
+ghost use Rattle.int_code.specs.WellFormed.{IsInRange};
+ghost use Rattle.byte_lower.specs.Layout.{room_of};
+ghost use Rattle.byte_lower.specs.Lists.{is_built, labels_behind, lists_of, top_of};
+ghost use Rattle.byte_lower.specs.Code as spec;
+ghost use Rattle.byte_lower.specs.Code.{CanPlace, Carries, code_of, start_values};
+
+use crate::layout::Layout;
+use crate::numbers::{number, put};
+use crate::operation::emit;
+use crate::push::paced;
+use byte_code::prim::{BytePrim, Paced, Prims};
+use int_code::op::{IntOp, IntProgram, Shape};
+use std::alloc::{AllocError, Global};
+
+fn booted(prim: BytePrim) -> Paced
+    ensures { result ≡ spec.booted prim }
+{
+    Paced {
+        prim,
+        boot: 1,
+        turns: 0,
+    }
+}
+
+fn polling(prim: BytePrim) -> Paced
+    ensures { result ≡ spec.polling prim }
+{
+    Paced {
+        prim,
+        boot: 1,
+        turns: 1,
+    }
+}
+
+/// The label of the innermost open if.
+fn top_of(labels: &[u32]) -> u32
+    ensures { result ≡ top_of (reverse labels.now) }
+{
+    match labels.last() {
+        Some(label) => *label,
+        None => 0,
+    }
+}
+
+/// The labels of the open ifs, the innermost last, behind an operation with the label `label`.
+fn follow(labels: &mut Vec<u32>, shape: Shape, k: u32) -> Result<(), AllocError>
+    requires { k + 1 < 2 ^ 32 }
+    ensures { OnOk result (reverse labels.new.items ≡ labels_behind shape k (reverse labels.old.items)) }
+{
+    match shape {
+        Shape::Opens => labels.push(k + 1)?,
+        Shape::Turns => {
+            if labels.pop().is_some() {
+                labels.push(k + 1)?;
+            }
+        }
+        Shape::Closes => {
+            labels.pop();
+        }
+        Shape::Plain => {}
+    }
+    Ok(())
+}
+
+/// Appends the lists of operations.
+fn emit_all(
+    code: &mut Prims,
+    alloc: Global,
+    layout: &Layout,
+    ops: &[IntOp],
+) -> Result<(), AllocError>
+    requires built { All (λ op. is_built op ≡ true) ops.now }
+    requires range { All (IsInRange (room_of layout.now)) ops.now }
+    requires few { length ops.now ≤ 1000000 }
+    ensures { OnOk result (code.new ≡ code.old ++ lists_of layout.now ops.now 0 []) }
+{
+    let mut labels: Vec<u32> = Vec::new(alloc);
+    for k in 0..ops.len() {
+        let op = &ops[k];
+        let label = k as u32 + 1;
+        emit(code, layout, op, label, top_of(labels.as_slice()))?;
+        follow(&mut labels, op.shape(), k as u32)?;
+    }
+    Ok(())
+}
+
+/// Appends the start values of variables, of which 0 takes no primitive.
+fn emit_starts(code: &mut Prims, layout: &Layout, starts: &[i16]) -> Result<(), AllocError>
+    requires { length starts.now ≤ layout.now.plan.sizes.variables }
+    ensures { OnOk result (code.new ≡ code.old ++ start_values layout.now starts.now 0) }
+{
+    for v in 0..starts.len() {
+        if starts[v] != 0 {
+            let Paced { prim, .. } = put(layout, v as u32, number(starts[v]));
+            code.push(booted(prim))?;
+        }
+    }
+    Ok(())
+}
+
+/// The start, the start values, and the cycle.
+fn emit_program(alloc: Global, layout: &Layout, program: &IntProgram) -> Result<Prims, AllocError>
+    requires { CanPlace layout.now program.now }
+    ensures { IfOk result (λ code. code ≡ code_of layout.now program.now) }
+{
+    let cells = layout.cells();
+    let mut code = Prims::new(alloc);
+    code.push(booted(BytePrim::Start { cells }))?;
+    emit_starts(&mut code, layout, program.starts.as_slice())?;
+    code.push(polling(BytePrim::Label { label: 0 }))?;
+    code.push(polling(BytePrim::CyclePoll { label: 0 }))?;
+    emit_all(&mut code, alloc, layout, program.ops.as_slice())?;
+    code.push(paced(BytePrim::Jump { label: 0 }))?;
+    Ok(code)
+}
+
+/// The code of a program: it clears the cells of the variables and kept bits, sets the start values, and in each cycle does what the operations do,
+/// on the levels at the inputs' pins.
+pub fn lower_bytes(
+    alloc: Global,
+    layout: &Layout,
+    program: &IntProgram,
+) -> Result<Prims, AllocError>
+    requires { CanPlace layout.now program.now }
+    ensures code { IfOk result (λ code. code ≡ code_of layout.now program.now) }
+    ensures runs { IfOk result (λ code. Carries layout.now program.now code) }
+{
+    match emit_program(alloc, layout, program) {
+        Ok(code) => Ok(code),
+        Err(e) => Err(e),
+    }
+}
