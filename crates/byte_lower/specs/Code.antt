@@ -1,6 +1,7 @@
 -- The code of a program, and what each run of it does.
 use Rattle.std.specs.Prelude.{◌≡◌, ℕ, zero, suc, ◌<◌, ◌≤◌, Bool, true, false, List, [], ◌∷◌, ◌++◌, length, map, All, ℤ, pos, if◌then◌else◌, slice_index, slice_index_or, slice_get, Some, None}
 use Rattle.std.specs.Ordering.{int_eq}
+use Rattle.chip_tables.specs.declared.memory.TheConstants.{DATA_ADDRESSES}
 use Rattle.chip_tables.specs.declared.outside.PinReading.{PinReading}
 use Rattle.runs.specs.Run.{Moment, moment, first_moment}
 use Rattle.ladder_meaning.specs.declared.reading.Reading.{Reading}
@@ -58,7 +59,7 @@ pub record IsFresh (o : Layout) (s : Bytes) : Type 0 where
   pub closed : s.open_call ≡ None
   pub target : s.store.target ≡ o.plan.target
   pub shown : s.store.converting ≡ false
-  pub cells : length s.store.cells ≡ 1120
+  pub cells : length s.store.cells ≡ DATA_ADDRESSES
   pub latches : s.store.latches ≡ 0 ∷ 0 ∷ 0 ∷ 0 ∷ 0 ∷ []
 
 -- a program's store in front of its first cycle, with any EEPROM, but that its wires are any: kept bits and outputs are false, and each variable has its start value

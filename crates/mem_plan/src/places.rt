@@ -26,12 +26,14 @@ pub struct PortBit16 {
 }
 
 impl Plan {
+    /// The target whose memory it is.
     pub fn target(&self) -> Target
         ensures { result ≡ self.now.target }
     {
         self.target
     }
 
+    /// How much is kept.
     pub fn sizes(&self) -> Sizes
         ensures { result ≡ self.now.sizes }
     {
