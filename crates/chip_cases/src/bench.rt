@@ -1,6 +1,6 @@
 //! Cases of the written ATmega16, with all numbers in hexadecimal digits. The machine stays from case to case.
 
-use crate::words::{CaseError, hex_byte, hex_word};
+use crate::words::{CaseError, hex_byte, hex_word, shown};
 use avr_mach::AvrState;
 use chip_tables::{BaudSetting, Env, PinReading, Settings, StepEnd, TimerSetting};
 use std::alloc::Global;
@@ -48,57 +48,67 @@ impl Bench {
         match words {
             ["reset"] => {
                 self.machine = fresh();
-                Ok(format!(in alloc; "done")?)
+                done(alloc)
             }
             ["read"] => {
                 self.machine.devices.reading = READING;
-                Ok(format!(in alloc; "done")?)
+                done(alloc)
             }
             ["flash", a, b, c, d] => {
-                self.flash = [hex_word(a)?, hex_word(b)?, hex_word(c)?, hex_word(d)?];
-                Ok(format!(in alloc; "done")?)
+                self.flash = flash_of(a, b, c, d)?;
+                done(alloc)
             }
-            ["step", asked] => {
-                let end = self.machine.step(&self.flash, &env(asked)?);
-                Ok(format!(in alloc; "{end:?}")?)
-            }
-            ["try", word, x, asked] => {
-                let end = self.tried(hex_word(word)?, hex_byte(x)?, &env(asked)?);
-                Ok(format!(in alloc; "{end:?}")?)
-            }
+            ["step", asked] => shown(alloc, &self.machine.step(&self.flash, &env(asked)?)),
+            ["try", word, x, asked] => shown(alloc, &self.tried(word, x, asked)?),
             ["flags", word, x, y, sreg] => flags(alloc, word, x, y, sreg),
-            [what, rest @ ..] => self.shown(alloc, what, rest),
-            [] => Err(CaseError::NoCase),
+            [what] => self.told(alloc, what),
+            [memory, address] => self.byte_at(alloc, memory, address),
+            _ => Err(CaseError::NoCase),
         }
     }
 
-    fn tried(&mut self, word: u16, x: u8, env: &Env) -> StepEnd {
+    fn tried(&mut self, word: &str, x: &str, asked: &str) -> Result<StepEnd, CaseError> {
+        let word = hex_word(word)?;
+        let env = env(asked)?;
         self.machine.place = 0;
-        self.machine.regs[16] = x;
-        self.machine.step(&[word], env)
+        self.machine.regs[16] = hex_byte(x)?;
+        Ok(self.machine.step(&[word], &env))
     }
 
-    fn shown(&self, alloc: Global, what: &str, rest: &[&str]) -> Result<String, CaseError> {
+    fn told(&self, alloc: Global, what: &str) -> Result<String, CaseError> {
         let machine = &self.machine;
-        match (what, rest) {
-            ("place", []) => Ok(format!(in alloc; "{:x}", machine.place())?),
-            ("modulator", []) => Ok(format!(in alloc; "{:x}", machine.pwm())?),
-            ("r16", []) => Ok(format!(in alloc; "{:x}", machine.regs[16])?),
-            ("reading", []) => Ok(format!(in alloc; "{:?}", machine.devices.reading)?),
-            ("port_b", []) => {
-                Ok(format!(in alloc; "{:x} {:x}", machine.direction(1), machine.latch(1))?)
-            }
-            ("ram", [address]) => Ok(format!(in alloc;
-                "{:x}",
-                machine.ram_at(hex_word(address)?)
-            )?),
-            ("eeprom", [address]) => {
+        match what {
+            "place" => hex(alloc, machine.place()),
+            "modulator" => hex(alloc, u32::from(machine.pwm())),
+            "r16" => hex(alloc, u32::from(machine.regs[16])),
+            "reading" => shown(alloc, &machine.devices.reading),
+            "port_b" => Ok(format!(in alloc; "{:x} {:x}", machine.direction(1), machine.latch(1))?),
+            _ => Err(CaseError::NoCase),
+        }
+    }
+
+    fn byte_at(&self, alloc: Global, memory: &str, address: &str) -> Result<String, CaseError> {
+        match memory {
+            "ram" => hex(alloc, u32::from(self.machine.ram_at(hex_word(address)?))),
+            "eeprom" => {
                 let address = u16::from(hex_byte(address)?);
-                Ok(format!(in alloc; "{:x}", machine.eeprom_at(address))?)
+                hex(alloc, u32::from(self.machine.eeprom_at(address)))
             }
             _ => Err(CaseError::NoCase),
         }
     }
+}
+
+fn done(alloc: Global) -> Result<String, CaseError> {
+    Ok(String::from_str(alloc, "done")?)
+}
+
+fn hex(alloc: Global, number: u32) -> Result<String, CaseError> {
+    Ok(format!(in alloc; "{number:x}")?)
+}
+
+fn flash_of(a: &str, b: &str, c: &str, d: &str) -> Result<[u16; 4], CaseError> {
+    Ok([hex_word(a)?, hex_word(b)?, hex_word(c)?, hex_word(d)?])
 }
 
 fn fresh() -> AvrState {
@@ -121,10 +131,12 @@ fn device_answer(ready: bool) -> Env {
 }
 
 fn flags(alloc: Global, word: &str, x: &str, y: &str, sreg: &str) -> Result<String, CaseError> {
+    let word = hex_word(word)?;
+    let (x, y, sreg) = (hex_byte(x)?, hex_byte(y)?, hex_byte(sreg)?);
     let mut machine = fresh();
-    machine.regs[16] = hex_byte(x)?;
-    machine.regs[17] = hex_byte(y)?;
-    machine.put_sreg(hex_byte(sreg)?);
-    let end = machine.step(&[hex_word(word)?], &device_answer(false));
+    machine.regs[16] = x;
+    machine.regs[17] = y;
+    machine.put_sreg(sreg);
+    let end = machine.step(&[word], &device_answer(false));
     Ok(format!(in alloc; "{:x} {:x}, {end:?}", machine.regs[16], machine.sreg())?)
 }

@@ -15,18 +15,30 @@ pub fn answer(alloc: Global, words: &[&str]) -> Result<String, CaseError> {
     match words {
         ["read", chip] => read(alloc, target(chip)?, ""),
         ["read", chip, text] => read(alloc, target(chip)?, text),
-        ["write", chip, "-", words @ ..] => write(alloc, target(chip)?, None, words),
-        ["write", chip, config, words @ ..] => write(
-            alloc,
-            target(chip)?,
-            Some(hex_word(config)?),
-            words,
-        ),
+        ["write", chip, config, words @ ..] => {
+            write(alloc, target(chip)?, config_of(config)?, words)
+        }
         _ => Err(CaseError::NoCase),
     }
 }
 
+fn config_of(word: &str) -> Result<Option<u16>, CaseError> {
+    if word == "-" {
+        return Ok(None);
+    }
+    Ok(Some(hex_word(word)?))
+}
+
 fn read(alloc: Global, chip: Target, text: &str) -> Result<String, CaseError> {
+    let bytes = bytes_of(alloc, text)?;
+    match read_hex(alloc, chip, bytes.as_slice()) {
+        Ok(image) => shown(alloc, image.words.as_slice(), image.config),
+        Err(HexError::Fault(fault)) => Ok(format!(in alloc; "{fault}")?),
+        Err(HexError::Memory(e)) => Err(e.into()),
+    }
+}
+
+fn bytes_of(alloc: Global, text: &str) -> Result<List<u8>, CaseError> {
     let mut bytes = List::new(alloc);
     for byte in text.as_bytes() {
         bytes.push(match byte {
@@ -35,16 +47,13 @@ fn read(alloc: Global, chip: Target, text: &str) -> Result<String, CaseError> {
             other => *other,
         })?;
     }
-    match read_hex(alloc, chip, bytes.as_slice()) {
-        Ok(image) => {
-            let count = image.words.len();
-            let last = image.words.as_slice().last().copied();
-            let config = image.config;
-            Ok(format!(in alloc; "{count} {last:?} {config:?}")?)
-        }
-        Err(HexError::Fault(fault)) => Ok(format!(in alloc; "{fault}")?),
-        Err(HexError::Memory(e)) => Err(e.into()),
-    }
+    Ok(bytes)
+}
+
+fn shown(alloc: Global, words: &[u16], config: Option<u16>) -> Result<String, CaseError> {
+    let count = words.len();
+    let last = words.last().copied();
+    Ok(format!(in alloc; "{count} {last:?} {config:?}")?)
 }
 
 fn write(
@@ -53,13 +62,10 @@ fn write(
     config: Option<u16>,
     digits: &[&str],
 ) -> Result<String, CaseError> {
-    let mut words = List::new(alloc);
-    for word in digits {
-        words.push(hex_word(word)?)?;
-    }
     let Some(room) = flash_words(chip) else {
         return Err(CaseError::NoCase);
     };
+    let words = words_of(alloc, digits)?;
     if words.len() > room as usize {
         return Err(CaseError::NoCase);
     }
@@ -69,8 +75,20 @@ fn write(
         config,
     };
     let text = write_hex(alloc, &image)?;
+    in_a_line(alloc, text.as_slice())
+}
+
+fn words_of(alloc: Global, digits: &[&str]) -> Result<List<u16>, CaseError> {
+    let mut words = List::new(alloc);
+    for word in digits {
+        words.push(hex_word(word)?)?;
+    }
+    Ok(words)
+}
+
+fn in_a_line(alloc: Global, text: &[u8]) -> Result<String, CaseError> {
     let mut shown = String::new(alloc);
-    for byte in text.as_slice() {
+    for byte in text {
         shown.push(if *byte == b'\n' { ',' } else { *byte as char })?;
     }
     Ok(shown)

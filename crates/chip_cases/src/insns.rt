@@ -1,6 +1,6 @@
 //! Cases of instructions, with all numbers in hexadecimal digits.
 
-use crate::words::{CaseError, hex_word};
+use crate::words::{CaseError, hex_word, shown};
 use avr_mach::{AvrInsn, decode, encode, size_of};
 use insn_rows::{InsnRow, avr_kind, find_row, rows_apart};
 use std::alloc::Global;
@@ -10,25 +10,30 @@ use std::alloc::Global;
 /// no word matches two.
 pub fn answer(alloc: Global, words: &[&str]) -> Result<String, CaseError> {
     match words {
-        ["kind", word] => Ok(format!(in alloc; "{:?}", avr_kind(hex_word(word)?))?),
+        ["kind", word] => shown(alloc, &avr_kind(hex_word(word)?)),
         ["decode", word, next] => decoded(alloc, hex_word(word)?, hex_word(next)?),
-        ["find", word, a, b] => {
-            Ok(format!(in alloc; "{:?}", find_row(&[row(a, b)?], hex_word(word)?))?)
-        }
-        ["find", word, a, b, c, d, e, f] => {
-            let rows = [row(a, b)?, row(c, d)?, row(e, f)?];
-            Ok(format!(in alloc; "{:?}", find_row(&rows, hex_word(word)?))?)
-        }
-        ["apart", a, b, c, d] => Ok(format!(in alloc;
-            "{}",
-            rows_apart(&[row(a, b)?, row(c, d)?])
-        )?),
-        ["apart", a, b, c, d, e, f] => {
-            let rows = [row(a, b)?, row(c, d)?, row(e, f)?];
-            Ok(format!(in alloc; "{}", rows_apart(&rows))?)
-        }
+        ["find", word, a, b] => found(alloc, word, &[row(a, b)?]),
+        ["find", word, a, b, c, d, e, f] => found(alloc, word, &three(a, b, c, d, e, f)?),
+        ["apart", a, b, c, d] => apart(alloc, &[row(a, b)?, row(c, d)?]),
+        ["apart", a, b, c, d, e, f] => apart(alloc, &three(a, b, c, d, e, f)?),
         _ => Err(CaseError::NoCase),
     }
+}
+
+fn found<const N: usize>(
+    alloc: Global,
+    word: &str,
+    rows: &[InsnRow; N],
+) -> Result<String, CaseError> {
+    shown(alloc, &find_row(rows, hex_word(word)?))
+}
+
+fn apart<const N: usize>(alloc: Global, rows: &[InsnRow; N]) -> Result<String, CaseError> {
+    shown(alloc, &rows_apart(rows))
+}
+
+fn three(a: &str, b: &str, c: &str, d: &str, e: &str, f: &str) -> Result<[InsnRow; 3], CaseError> {
+    Ok([row(a, b)?, row(c, d)?, row(e, f)?])
 }
 
 fn row(mask: &str, bits: &str) -> Result<InsnRow, CaseError> {

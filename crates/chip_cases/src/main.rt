@@ -11,7 +11,6 @@ mod words;
 use bench::Bench;
 use std::alloc::Global;
 use std::io;
-use std::io::{BufRead, BufReader};
 use std::process::ExitCode;
 use words::CaseError;
 
@@ -27,15 +26,20 @@ fn answer(alloc: Global, bench: &mut Bench, line: &str) -> Result<String, CaseEr
     }
 }
 
+/// Prints a case and what comes of it.
+fn show(rt: &(impl Print + AllocGlobal), bench: &mut Bench, line: &str) -> io::Result<()> {
+    match answer(rt.alloc(), bench, line) {
+        Ok(text) => println!(rt; "{line} -> {text}"),
+        Err(CaseError::NoCase) => println!(rt; "{line}: no case"),
+        Err(CaseError::Memory(e)) => Err(e.into()),
+    }
+}
+
 fn run(rt: &(impl Input + Print + AllocGlobal)) -> io::Result<()> {
+    let cases = io::read_to_string(rt.alloc(), rt.reader())?;
     let mut bench = Bench::new();
-    for line in BufReader::new(rt.alloc(), rt.reader())?.lines(rt.alloc()) {
-        let line = line?;
-        match answer(rt.alloc(), &mut bench, line.as_str()) {
-            Ok(text) => println!(rt; "{line} -> {text}")?,
-            Err(CaseError::NoCase) => println!(rt; "{line}: no case")?,
-            Err(CaseError::Memory(e)) => return Err(e.into()),
-        }
+    for line in cases.as_str().lines() {
+        show(rt, &mut bench, line)?;
     }
     Ok(())
 }

@@ -1,6 +1,6 @@
 //! Cases of the tables: the name of a table, a target, and the other arguments of the call in decimal digits.
 
-use crate::words::{CaseError, number, short, target};
+use crate::words::{CaseError, number, short, shown, target};
 use chip_tables::{
     CostKind, Target, adc_channel, baud_setting, configuration_word, cost, eeprom_have,
     flash_words, mega16, pic16, pin_of, pwm_pin, pwm_setting, ram_byte, ram_have, rx_pin,
@@ -22,25 +22,23 @@ pub fn answer(alloc: Global, words: &[&str]) -> Result<String, CaseError> {
 
 fn of_target(alloc: Global, table: &str, chip: Target) -> Result<String, CaseError> {
     match table {
-        "pins" => Ok(format!(in alloc; "{}", pin_count(chip))?),
-        "devices" => Ok(format!(in alloc;
-            "{:?} {:?} {:?}",
-            rx_pin(chip),
-            tx_pin(chip),
-            pwm_pin(chip)
-        )?),
-        "memories" => {
-            Ok(format!(in alloc;
-                "{} {} {:?}",
-                ram_have(chip),
-                eeprom_have(chip),
-                flash_words(chip)
-            )?)
-        }
-        "configuration" => Ok(format!(in alloc; "{:?}", configuration_word(chip))?),
-        "wait" => Ok(format!(in alloc; "{:?}", wait(chip))?),
+        "pins" => shown(alloc, &pin_count(chip)),
+        "devices" => devices(alloc, chip),
+        "memories" => memories(alloc, chip),
+        "configuration" => shown(alloc, &configuration_word(chip)),
+        "wait" => shown(alloc, &wait(chip)),
         _ => Err(CaseError::NoCase),
     }
+}
+
+fn devices(alloc: Global, chip: Target) -> Result<String, CaseError> {
+    let (rx, tx, pwm) = (rx_pin(chip), tx_pin(chip), pwm_pin(chip));
+    Ok(format!(in alloc; "{rx:?} {tx:?} {pwm:?}")?)
+}
+
+fn memories(alloc: Global, chip: Target) -> Result<String, CaseError> {
+    let (ram, eeprom, flash) = (ram_have(chip), eeprom_have(chip), flash_words(chip));
+    Ok(format!(in alloc; "{ram} {eeprom} {flash:?}")?)
 }
 
 /// The cycles of a turn of a waiting loop.
@@ -54,10 +52,10 @@ fn wait(chip: Target) -> Option<u32> {
 
 fn of_one(alloc: Global, table: &str, chip: Target, word: &str) -> Result<String, CaseError> {
     match table {
-        "pin" => Ok(format!(in alloc; "{:?}", pin_of(chip, short(word)?))?),
-        "channel" => Ok(format!(in alloc; "{:?}", adc_channel(chip, short(word)?))?),
-        "byte" => Ok(format!(in alloc; "{:?}", ram_byte(chip, number(word)?))?),
-        "cost" => Ok(format!(in alloc; "{:?}", cost(chip, kind(word)?))?),
+        "pin" => shown(alloc, &pin_of(chip, short(word)?)),
+        "channel" => shown(alloc, &adc_channel(chip, short(word)?)),
+        "byte" => shown(alloc, &ram_byte(chip, number(word)?)),
+        "cost" => shown(alloc, &cost(chip, kind(word)?)),
         _ => Err(CaseError::NoCase),
     }
 }
@@ -70,9 +68,9 @@ fn of_two(
     other: u32,
 ) -> Result<String, CaseError> {
     match table {
-        "timer" => Ok(format!(in alloc; "{:?}", timer_setting(chip, one, other))?),
-        "baud" => Ok(format!(in alloc; "{:?}", baud_setting(chip, one, other))?),
-        "pwm" => Ok(format!(in alloc; "{:?}", pwm_setting(chip, one, other))?),
+        "timer" => shown(alloc, &timer_setting(chip, one, other)),
+        "baud" => shown(alloc, &baud_setting(chip, one, other)),
+        "pwm" => shown(alloc, &pwm_setting(chip, one, other)),
         _ => Err(CaseError::NoCase),
     }
 }

@@ -1,10 +1,11 @@
 //! The words of a case.
 
 use chip_tables::Target;
-use std::alloc::AllocError;
+use std::alloc::{AllocError, Global};
+use std::fmt::Debug;
 
 /// Why a line has no answer.
-#[derive(Debug, Drop)]
+#[derive(Clone, Copy)]
 pub enum CaseError {
     /// It is no case.
     NoCase,
@@ -15,6 +16,11 @@ impl From<AllocError> for CaseError {
     fn from(e: AllocError) -> CaseError {
         CaseError::Memory(e)
     }
+}
+
+/// A value in the form in which it is printed to find faults.
+pub fn shown<T: Debug>(alloc: Global, value: &T) -> Result<String, CaseError> {
+    Ok(format!(in alloc; "{value:?}")?)
 }
 
 pub fn target(word: &str) -> Result<Target, CaseError> {
