@@ -1,6 +1,5 @@
 -- An instruction of a group is one of the instructions that the group's function executes.
 use Rattle.std.proofs.Common.{◌≡◌, ℕ, refl}
-use Rattle.avr_mach.specs.declared.exec.Group.{Group}
 use Rattle.avr_mach.specs.declared.exec.Group.TheVariants.{Arithmetic, Control, Transfer, Access}
 use Rattle.avr_mach.specs.declared.insn.AvrInsn.{AvrInsn}
 use Rattle.avr_mach.specs.declared.insn.AvrInsn.TheVariants.{Add, Adc, Sub, Sbc, Cp, Cpc, And, Eor, Or, Mov, Cpi, Ldi, Com, Inc, Lsr, Ror, Dec, Brbs, Brbc, Bset, Bclr, Rjmp, Rcall, Jmp, Call, Ret, In, Out, Cbi, Sbi, Sbic, Sbis, Sbrc, Sbrs, Lds, Sts, Ldd, Std, St, Nop}

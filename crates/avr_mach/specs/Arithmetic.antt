@@ -1,5 +1,5 @@
 -- Sums, differences and shifts with their flags: AVR Instruction Set Manual, the flags of each instruction.
-use Rattle.std.specs.Prelude.{ℕ, ◌+◌, ◌-◌, ◌*◌, ◌/◌, ◌%◌, ◌==◌, nat_lt, nat_le, ◌&&◌, ◌||◌, not, Bool, true, false, slice_set}
+use Rattle.std.specs.Prelude.{ℕ, ◌+◌, ◌-◌, ◌%◌, ◌==◌, nat_lt, nat_le, ◌&&◌, ◌||◌, not, Bool, slice_set}
 use Rattle.avr_mach.specs.declared.state.AvrState.{AvrState}
 use Rattle.chip_tables.specs.Bits.{bit_of}
 use Rattle.avr_mach.specs.State.{with_reg}

@@ -1,5 +1,5 @@
 -- The copier has what the list allows to an operation that copies a bit.
-use Rattle.std.proofs.Common.{◌≡◌, ℕ, inl, inr, false, List, [], ◌∷◌, refl, arith}
+use Rattle.std.proofs.Common.{◌≡◌, inl, inr, false, List, [], ◌∷◌, refl, arith}
 use Rattle.std.specs.List.{flat_map, sum_by}
 use Rattle.chip_tables.specs.declared.target.Target.TheVariants.{Mega16}
 use Rattle.byte_code.specs.Kinds as kind

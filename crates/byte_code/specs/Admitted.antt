@@ -1,5 +1,5 @@
 -- Which primitives code for a project may have: cells that are the project's or the compiler's, and pins and devices by what is done to them.
-use Rattle.std.specs.Prelude.{ℕ, suc, ◌+◌, ◌==◌, nat_lt, nat_le, ◌&&◌, ◌||◌, Bool, true, false, List, [], ◌∷◌, Option, Some, None}
+use Rattle.std.specs.Prelude.{ℕ, ◌+◌, ◌==◌, nat_lt, nat_le, ◌&&◌, ◌||◌, Bool, true, false, List, [], ◌∷◌, Option, Some, None}
 use Rattle.std.specs.List.{list_any, list_all}
 use Rattle.chip_tables.specs.Memory.{ram_ranges, holds, eeprom_size}
 use Rattle.chip_tables.specs.declared.pic16.TheConstants.{SCRATCH_FIRST, SCRATCH_END}
