@@ -1,5 +1,5 @@
 -- From a fresh machine to the first cycle poll.
-use Rattle.std.proofs.Common.{◌≡◌, ◌≢◌, ℕ, zero, suc, ◌+◌, ◌-◌, ◌*◌, ◌/◌, ◌^◌, ◌%◌, ◌<◌, ◌≤◌, inl, inr, Bool, true, false, List, [], ◌∷◌, ◌++◌, drop, length, map, Option, Some, None, ℤ, pos, refl, sym, ap, subst, ◌∙◌, arith, length-set, slice_index, slice_set}
+use Rattle.std.proofs.Common.{◌≡◌, ℕ, zero, suc, ◌+◌, ◌-◌, ◌*◌, ◌<◌, ◌≤◌, inl, inr, Bool, true, false, List, [], ◌∷◌, ◌++◌, drop, length, map, Option, Some, None, ℤ, pos, refl, sym, ap, subst, ◌∙◌, arith, length-set, slice_index, slice_set}
 use Rattle.std.specs.Prelude.{◌⊎◌, slice_get, slice_index_or, if◌then◌else◌, nat_eq, nat_le, All}
 use Rattle.std.specs.Ordering.{int_eq}
 use Rattle.std.proofs.lemmas.Bool.{cases_eq}
@@ -9,8 +9,6 @@ use Rattle.std.proofs.lemmas.List.Elements.{All-head, All-tail}
 use Rattle.std.proofs.lemmas.Nat.Bits.{bit_at-zero}
 use Rattle.chip_tables.specs.Bits.{bit_of}
 use Rattle.chip_tables.specs.Memory.{ram_size, ram_address}
-use Rattle.chip_tables.specs.declared.pins.PortBit.{PortBit}
-use Rattle.chip_tables.specs.declared.target.Target.{Target}
 use Rattle.mem_plan.specs.Needs.{ram_need}
 use Rattle.mem_plan.specs.Places.{IsChip}
 use Rattle.mem_plan.specs.Seen.{is_high}
@@ -18,13 +16,12 @@ use Rattle.ladder_meaning.specs.Numbers.{IsNumber}
 use Rattle.ladder_meaning.specs.declared.reading.Reading.{Reading}
 use Rattle.int_code.specs.Store as int
 use Rattle.int_code.specs.declared.op.IntProgram.{IntProgram}
-use Rattle.byte_code.specs.declared.prim.BytePrim.TheVariants.{Start, CyclePoll, Label, Jump, Word}
+use Rattle.byte_code.specs.declared.prim.BytePrim.TheVariants.{Start, Label}
 use Rattle.byte_code.specs.declared.prim.Paced.{Paced}
-use Rattle.byte_code.specs.declared.prim.WordOp.TheVariants as words
 use Rattle.byte_code.specs.declared.state.Bytes.{Bytes}
 use Rattle.byte_code.specs.declared.store.Store.{Store}
 use Rattle.byte_code.specs.Machine.{next_with}
-use Rattle.byte_code.specs.Store.{cell, with_cell, with_word, word_at, word_from}
+use Rattle.byte_code.specs.Store.{cell, with_word, word_at, word_from}
 use Rattle.byte_code.specs.Table.{plain, cleared, cell_cleared, none_waits}
 use Rattle.byte_lower.proofs.PlaceLemmas.{Listed, kept_listed, low_listed, high_listed}
 use Rattle.byte_lower.proofs.RouteLemmas.{along, Reaches, arrive, go, here, behind}

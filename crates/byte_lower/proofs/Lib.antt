@@ -10,3 +10,4 @@ pub mod PlaceLemmas
 pub mod CodeLemmas
 pub mod BootLemmas
 pub mod CycleLemmas
+pub mod ListLemmas

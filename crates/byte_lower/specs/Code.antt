@@ -39,7 +39,7 @@ start_values o (n ∷ ns) v = if int_eq n (pos 0) then start_values o ns (suc v)
 -- the start, the start values, the cycle poll behind label 0, the lists of the operations, and the jump back
 abbrev pub code_of : Layout → IntProgram → List Paced
 code_of o p =
-    booted (Start (ram_need o.plan.sizes)) ∷ (start_values o p.starts 0 ++ polling (Label 0) ∷ polling (CyclePoll 0) ∷ (lists_of o p.ops 0 [] ++ paced (Jump 0) ∷ []))
+    booted (Start (ram_need o.plan.sizes)) ∷ (start_values o p.starts 0 ++ polling (Label 0) ∷ polling (CyclePoll 0) ∷ (lists_of o 0 p.ops 0 [] ++ paced (Jump 0) ∷ []))
 
 -- Operations that are lowered, that nest, whose numbers have places and 16 bits; and a start value for each variable that does not start at 0.
 pub record CanPlace (o : Layout) (p : IntProgram) : Type 0 where

@@ -1,6 +1,7 @@
 //! From flat operations to code of the byte machine.
 #![tactic(auto)]
 
+mod guard;
 pub mod layout;
 mod numbers;
 pub mod operation;
