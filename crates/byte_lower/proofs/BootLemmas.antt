@@ -28,7 +28,7 @@ use Rattle.byte_lower.proofs.RouteLemmas.{along, Reaches, arrive, go, here, behi
 use Rattle.byte_lower.proofs.StoreLemmas.{Apart, Good, any_flag, word_written, number_read, are_same, are_apart}
 use Rattle.byte_lower.specs.Code.{booted, polling, start_values, CanPlace, IsFresh, IsStart}
 use Rattle.byte_lower.specs.Layout.{word_cell, bit_cell, pin_at, HasPins}
-use Rattle.byte_lower.specs.Lists.{number, put}
+use Rattle.byte_lower.specs.Lists.{number, move}
 use Rattle.byte_lower.specs.Stands.{IsWordOf, Stands, seen}
 use Rattle.byte_lower.specs.declared.layout.Layout.{Layout}
 
@@ -170,9 +170,9 @@ module _ (code rest : List Paced) (o : Layout) (p : IntProgram) (r : Reading) (e
   first_left n ns v at s t b = let f : v + 0 ≡ v = omega arith in b.left 0 ∙ ap (λ j. slice_index_or p.starts j (pos 0)) f
 
   value_by : (n : ℤ) (ns : List ℤ) (v at : ℕ) (s : Bytes) (t : int.Store) (c : Bool) → int_eq n (pos 0) ≡ c → Begun (n ∷ ns) v at s t →
-      drop at code ≡ (if c then start_values o ns (suc v) else record (put o v (number n)) { boot = 1; turns = 0 } ∷ start_values o ns (suc v)) ++ polling (Label 0) ∷ rest →
+      drop at code ≡ (if c then start_values o ns (suc v) else booted (move o v (number n)) ∷ start_values o ns (suc v)) ++ polling (Label 0) ∷ rest →
       ((at1 : ℕ) (s1 : Bytes) (t1 : int.Store) → Begun ns (suc v) at1 s1 t1 → Booted code o p r eeprom (suc (along at1 (start_values o ns (suc v)))) s1) →
-      Booted code o p r eeprom (suc (along at (if c then start_values o ns (suc v) else record (put o v (number n)) { boot = 1; turns = 0 } ∷ start_values o ns (suc v)))) s
+      Booted code o p r eeprom (suc (along at (if c then start_values o ns (suc v) else booted (move o v (number n)) ∷ start_values o ns (suc v)))) s
   value_by n ns v at s t true e b ahead rec =
       let zero_is : n ≡ pos 0 = (Decides-int_eq n (pos 0)).0 e in
       rec at s t (record {
@@ -195,7 +195,7 @@ module _ (code rest : List Paced) (o : Layout) (p : IntProgram) (r : Reading) (e
           b.above u (omega (arith, same)) ∙ sym ((Decides-int_eq n (pos 0)).0 e) ∙ first_left n ns v at s t b ∙ ap (λ j. slice_index_or p.starts j (pos 0)) (sym same)
       by u h (inr other) = b.below u (omega (arith, h, other))
   value_by n ns v at s t false e b ahead rec =
-      let move = record (put o v (number n)) { boot = 1; turns = 0 } in
+      let move = booted (move o v (number n)) in
       let behind_it = start_values o ns (suc v) ++ polling (Label 0) ∷ rest in
       let lt : v < o.plan.sizes.variables = omega (arith, b.room) in
       let d = with_word s.store (word_cell o v) (word_from s.store (number n)) in

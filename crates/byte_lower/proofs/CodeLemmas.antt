@@ -12,8 +12,8 @@ use Rattle.byte_code.specs.declared.prim.Shape.TheVariants.{AtPoll}
 use Rattle.byte_code.specs.Table as table
 use Rattle.byte_code.proofs.Times.{times, times-cons}
 use Rattle.byte_lower.proofs.RouteLemmas.{along, HasNoNames}
-use Rattle.byte_lower.specs.Code.{start_values}
-use Rattle.byte_lower.specs.Lists.{label_of, list_of, lists_of, top_of, labels_behind, unless_less, unless_equal, sum, difference, put, number, guard_of, put_where, joined}
+use Rattle.byte_lower.specs.Code.{booted, start_values}
+use Rattle.byte_lower.specs.Lists.{label_of, list_of, lists_of, top_of, labels_behind, unless_less, unless_equal, sum, difference, move, number, guard_of, put_where, joined}
 use Rattle.byte_lower.specs.declared.guard.Guard.{Guard}
 use Rattle.byte_lower.specs.declared.layout.Layout.{Layout}
 
@@ -111,7 +111,7 @@ pub starts_names : (o : Layout) (ns : List ℤ) (v : ℕ) → HasNoNames (start_
 starts_names o [] v = tt
 starts_names o (n ∷ ns) v = by (int_eq n (pos 0)) _ (starts_names o ns (suc v))
   where
-    by : (b : Bool) (ps : List Paced) → HasNoNames ps → HasNoNames (if b then ps else record (put o v (number n)) { boot = 1; turns = 0 } ∷ ps)
+    by : (b : Bool) (ps : List Paced) → HasNoNames ps → HasNoNames (if b then ps else booted (move o v (number n)) ∷ ps)
     by true ps h = h
     by false ps h = ((λ l. refl), h)
 

@@ -11,3 +11,4 @@ pub mod CodeLemmas
 pub mod BootLemmas
 pub mod CycleLemmas
 pub mod ListLemmas
+pub mod PinLemmas

@@ -4,3 +4,5 @@ pub mod Stands
 pub mod Code
 -- the list of each operation
 pub mod Lists
+-- what the code's own steps ask of each other
+pub mod Emitted

@@ -75,8 +75,11 @@ number n = word.Number (low_byte n) (high_byte n)
 abbrev pub word_in : Layout → ℕ → WordSource
 word_in o v = word.Cells (word_cell o v)
 
+abbrev pub move : Layout → ℕ → WordSource → BytePrim
+move o v from = Word (words.Move (word_cell o v) from)
+
 abbrev pub put : Layout → ℕ → WordSource → Paced
-put o v from = paced (Word (words.Move (word_cell o v) from))
+put o v from = paced (move o v from)
 
 abbrev pub jump_where : FlagKind → Bool → ℕ → Paced
 jump_where what is l = paced (JumpWhere (test.Flag what is) l)
@@ -136,8 +139,8 @@ count_up o v = paced (Word (words.Increment (word_cell o v)))
 abbrev pub count_down : Layout → ℕ → Paced
 count_down o v = paced (Word (words.Decrement (word_cell o v)))
 
--- The list of an operation that has the label l, where `top` is the label of the innermost open if. An if jumps to its label where its first branch does not run;
--- its els jumps over the second branch to a label of its own, and stands at the if's; its fi stands at the last.
+-- The list of an operation that has the label l, where `top` is the label of the innermost open if. An if jumps to its label where its
+-- first branch does not run; its els jumps over the second branch to a label of its own, and stands at the if's; its fi stands at the last.
 abbrev pub list_of : Layout → IntOp → ℕ → ℕ → List Paced
 list_of o (Set b) l top = put_bit o b true ∷ []
 list_of o (Clr b) l top = put_bit o b false ∷ []

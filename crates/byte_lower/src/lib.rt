@@ -5,6 +5,7 @@ mod guard;
 pub mod layout;
 mod numbers;
 pub mod operation;
+pub mod pins;
 mod places;
 pub mod program;
 mod push;

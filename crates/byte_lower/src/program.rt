@@ -1,8 +1,9 @@
 //! The code of a program.
 
-ghost use Rattle.std.specs.Prelude.{◌≡◌, ◌≤◌, ◌<◌, ◌^◌, ◌+◌, ◌++◌, [], drop, length, reverse, true, All, IfOk, OnOk};
+ghost use Rattle.std.specs.Prelude.{◌≡◌, ◌≤◌, ◌<◌, ◌^◌, ◌+◌, ◌++◌, [], length, reverse, true, All, IfOk, OnOk};
 ghost use Rattle.int_code.specs.WellFormed.{IsInRange};
 ghost use Rattle.byte_lower.specs.Layout.{room_of};
+ghost use Rattle.byte_lower.specs.Emitted.{Goes};
 ghost use Rattle.byte_lower.specs.Lists.{is_built, labels_behind, lists_of, top_of};
 ghost use Rattle.byte_lower.specs.Code as spec;
 ghost use Rattle.byte_lower.specs.Code.{CanPlace, Carries, code_of, start_values};
@@ -79,7 +80,7 @@ fn emit_next(
     requires built { All (λ op. is_built op ≡ true) ops.now }
     requires range { All (IsInRange (room_of layout.now)) ops.now }
     requires few { length ops.now ≤ 1000000 }
-    ensures { IfOk result (λ passed. code.new ++ lists_of layout.now passed (drop (k + 1) ops.now) (k + 1) (reverse labels.new.items) ≡ code.old ++ lists_of layout.now 0 (drop k ops.now) k (reverse labels.old.items)) }
+    ensures { IfOk result (λ passed. Goes layout.now ops.now k (reverse labels.old.items) (reverse labels.new.items) passed code.old code.new) }
 {
     match guard_at(ops, k) {
         Some(guard) => {
@@ -128,7 +129,7 @@ fn emit_starts(code: &mut Prims, layout: &Layout, starts: &[i16]) -> Result<(), 
 {
     for v in 0..starts.len() {
         if starts[v] != 0 {
-            let Paced { prim, .. } = put(layout, v as u32, number(starts[v]));
+            let prim = put(layout, v as u32, number(starts[v])).prim;
             code.push(booted(prim))?;
         }
     }
