@@ -12,3 +12,4 @@ pub mod BootLemmas
 pub mod CycleLemmas
 pub mod ListLemmas
 pub mod PinLemmas
+pub mod SampleLemmas

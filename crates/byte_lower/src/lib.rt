@@ -2,6 +2,7 @@
 #![tactic(auto)]
 
 mod guard;
+pub mod laws;
 pub mod layout;
 mod numbers;
 pub mod operation;
