@@ -1,5 +1,5 @@
 -- From a fresh machine to the first cycle poll.
-use Rattle.std.proofs.Common.{◌≡◌, ◌≢◌, ℕ, zero, suc, ◌+◌, ◌-◌, ◌*◌, ◌/◌, ◌^◌, ◌%◌, ◌<◌, ◌≤◌, inl, inr, Bool, true, false, List, [], ◌∷◌, ◌++◌, drop, length, map, Option, Some, None, ℤ, pos, refl, sym, ap, subst, ◌∙◌, arith, length-set, slice_index, slice_set}
+use Rattle.std.proofs.Common.{◌≡◌, ℕ, zero, suc, ◌+◌, ◌-◌, ◌*◌, ◌<◌, ◌≤◌, inl, inr, Bool, true, false, List, [], ◌∷◌, ◌++◌, drop, length, map, Option, Some, None, ℤ, pos, refl, sym, ap, subst, ◌∙◌, arith, length-set, slice_index, slice_set}
 use Rattle.std.specs.Prelude.{◌⊎◌, slice_get, slice_index_or, if◌then◌else◌, nat_eq, nat_le, All}
 use Rattle.std.specs.Ordering.{int_eq}
 use Rattle.std.proofs.lemmas.Bool.{cases_eq}
@@ -9,8 +9,6 @@ use Rattle.std.proofs.lemmas.List.Elements.{All-head, All-tail}
 use Rattle.std.proofs.lemmas.Nat.Bits.{bit_at-zero}
 use Rattle.chip_tables.specs.Bits.{bit_of}
 use Rattle.chip_tables.specs.Memory.{ram_size, ram_address}
-use Rattle.chip_tables.specs.declared.pins.PortBit.{PortBit}
-use Rattle.chip_tables.specs.declared.target.Target.{Target}
 use Rattle.mem_plan.specs.Needs.{ram_need}
 use Rattle.mem_plan.specs.Places.{IsChip}
 use Rattle.mem_plan.specs.Seen.{is_high}
@@ -18,20 +16,19 @@ use Rattle.ladder_meaning.specs.Numbers.{IsNumber}
 use Rattle.ladder_meaning.specs.declared.reading.Reading.{Reading}
 use Rattle.int_code.specs.Store as int
 use Rattle.int_code.specs.declared.op.IntProgram.{IntProgram}
-use Rattle.byte_code.specs.declared.prim.BytePrim.TheVariants.{Start, CyclePoll, Label, Jump, Word}
+use Rattle.byte_code.specs.declared.prim.BytePrim.TheVariants.{Start, Label}
 use Rattle.byte_code.specs.declared.prim.Paced.{Paced}
-use Rattle.byte_code.specs.declared.prim.WordOp.TheVariants as words
 use Rattle.byte_code.specs.declared.state.Bytes.{Bytes}
 use Rattle.byte_code.specs.declared.store.Store.{Store}
 use Rattle.byte_code.specs.Machine.{next_with}
-use Rattle.byte_code.specs.Store.{cell, with_cell, with_word, word_at, word_from}
+use Rattle.byte_code.specs.Store.{cell, with_word, word_at, word_from}
 use Rattle.byte_code.specs.Table.{plain, cleared, cell_cleared, none_waits}
 use Rattle.byte_lower.proofs.PlaceLemmas.{Listed, kept_listed, low_listed, high_listed}
 use Rattle.byte_lower.proofs.RouteLemmas.{along, Reaches, arrive, go, here, behind}
 use Rattle.byte_lower.proofs.StoreLemmas.{Apart, Good, any_flag, word_written, number_read, are_same, are_apart}
 use Rattle.byte_lower.specs.Code.{booted, polling, start_values, CanPlace, IsFresh, IsStart}
 use Rattle.byte_lower.specs.Layout.{word_cell, bit_cell, pin_at, HasPins}
-use Rattle.byte_lower.specs.Lists.{number, put}
+use Rattle.byte_lower.specs.Lists.{number, move}
 use Rattle.byte_lower.specs.Stands.{IsWordOf, Stands, seen}
 use Rattle.byte_lower.specs.declared.layout.Layout.{Layout}
 
@@ -173,9 +170,9 @@ module _ (code rest : List Paced) (o : Layout) (p : IntProgram) (r : Reading) (e
   first_left n ns v at s t b = let f : v + 0 ≡ v = omega arith in b.left 0 ∙ ap (λ j. slice_index_or p.starts j (pos 0)) f
 
   value_by : (n : ℤ) (ns : List ℤ) (v at : ℕ) (s : Bytes) (t : int.Store) (c : Bool) → int_eq n (pos 0) ≡ c → Begun (n ∷ ns) v at s t →
-      drop at code ≡ (if c then start_values o ns (suc v) else record (put o v (number n)) { boot = 1; turns = 0 } ∷ start_values o ns (suc v)) ++ polling (Label 0) ∷ rest →
+      drop at code ≡ (if c then start_values o ns (suc v) else booted (move o v (number n)) ∷ start_values o ns (suc v)) ++ polling (Label 0) ∷ rest →
       ((at1 : ℕ) (s1 : Bytes) (t1 : int.Store) → Begun ns (suc v) at1 s1 t1 → Booted code o p r eeprom (suc (along at1 (start_values o ns (suc v)))) s1) →
-      Booted code o p r eeprom (suc (along at (if c then start_values o ns (suc v) else record (put o v (number n)) { boot = 1; turns = 0 } ∷ start_values o ns (suc v)))) s
+      Booted code o p r eeprom (suc (along at (if c then start_values o ns (suc v) else booted (move o v (number n)) ∷ start_values o ns (suc v)))) s
   value_by n ns v at s t true e b ahead rec =
       let zero_is : n ≡ pos 0 = (Decides-int_eq n (pos 0)).0 e in
       rec at s t (record {
@@ -198,7 +195,7 @@ module _ (code rest : List Paced) (o : Layout) (p : IntProgram) (r : Reading) (e
           b.above u (omega (arith, same)) ∙ sym ((Decides-int_eq n (pos 0)).0 e) ∙ first_left n ns v at s t b ∙ ap (λ j. slice_index_or p.starts j (pos 0)) (sym same)
       by u h (inr other) = b.below u (omega (arith, h, other))
   value_by n ns v at s t false e b ahead rec =
-      let move = record (put o v (number n)) { boot = 1; turns = 0 } in
+      let move = booted (move o v (number n)) in
       let behind_it = start_values o ns (suc v) ++ polling (Label 0) ∷ rest in
       let lt : v < o.plan.sizes.variables = omega (arith, b.room) in
       let d = with_word s.store (word_cell o v) (word_from s.store (number n)) in

@@ -1,6 +1,6 @@
 -- Where the parts of a program's code are, and how often their primitives may be begun.
-use Rattle.std.proofs.Common.{◌≡◌, ℕ, zero, suc, ◌+◌, ◌<◌, ◌≤◌, inl, inr, Bool, true, false, cond, List, [], ◌∷◌, ◌++◌, drop, Some, refl, sym, ap, subst, ◌∙◌, arith, append_assoc}
-use Rattle.std.specs.Prelude.{◌⊎◌, ◌==◌, slice_get, if◌then◌else◌, int_lt, ℤ, pos}
+use Rattle.std.proofs.Common.{◌≡◌, ℕ, zero, suc, ◌+◌, ◌<◌, ◌≤◌, Bool, true, false, List, [], ◌∷◌, ◌++◌, drop, Some, refl, sym, ap, subst, ◌∙◌, arith}
+use Rattle.std.specs.Prelude.{slice_get, if◌then◌else◌, int_lt, ℤ, pos, Option, None}
 use Rattle.std.specs.Ordering.{int_eq}
 use Rattle.int_code.specs.declared.op.IntOp.{IntOp}
 use Rattle.int_code.specs.declared.op.IntOp.TheVariants.{Set, Clr, Cpy, Not, Ifs, Ifc, Iflt, Ifeq, Els, Fi, Lit, Mov, Add, Sub, Inc, Dec}
@@ -12,8 +12,9 @@ use Rattle.byte_code.specs.declared.prim.Shape.TheVariants.{AtPoll}
 use Rattle.byte_code.specs.Table as table
 use Rattle.byte_code.proofs.Times.{times, times-cons}
 use Rattle.byte_lower.proofs.RouteLemmas.{along, HasNoNames}
-use Rattle.byte_lower.specs.Code.{start_values}
-use Rattle.byte_lower.specs.Lists.{label_of, list_of, lists_of, top_of, labels_behind, unless_less, unless_equal, sum, difference, put, number}
+use Rattle.byte_lower.specs.Code.{booted, start_values}
+use Rattle.byte_lower.specs.Lists.{label_of, list_of, lists_of, top_of, labels_behind, unless_less, unless_equal, sum, difference, move, number, guard_of, put_where, joined}
+use Rattle.byte_lower.specs.declared.guard.Guard.{Guard}
 use Rattle.byte_lower.specs.declared.layout.Layout.{Layout}
 
 -- a fact of each primitive
@@ -83,10 +84,19 @@ list_turns o (Inc v) l top = (refl, tt)
 list_turns o (Dec v) l top = (refl, tt)
 list_turns o op l top = tt
 
-pub lists_turn : (o : Layout) (ops : List IntOp) (k : ℕ) (labels : List ℕ) → Every TurnsOnce (lists_of o ops k labels)
-lists_turn o [] k labels = tt
-lists_turn o (op ∷ ops) k labels =
-    every_on TurnsOnce (list_of o op (label_of k) (top_of labels)) (lists_of o ops (suc k) (labels_behind (shape_of op) k labels)) (list_turns o op (label_of k) (top_of labels)) (lists_turn o ops (suc k) (labels_behind (shape_of op) k labels))
+every_joined : (P : Paced → Type 0) (x : Option Guard) (one : Guard → List Paced) (list : List Paced) → ((g : Guard) → Every P (one g)) → Every P list → Every P (joined x one list)
+every_joined P (Some g) one list h f = h g
+every_joined P None one list h f = f
+
+pub lists_turn : (o : Layout) (passed : ℕ) (ops : List IntOp) (k : ℕ) (labels : List ℕ) → Every TurnsOnce (lists_of o passed ops k labels)
+lists_turn o zero [] k labels = tt
+lists_turn o (suc passed) [] k labels = tt
+lists_turn o (suc passed) (op ∷ ops) k labels = lists_turn o passed ops (suc k) labels
+lists_turn o zero (op ∷ ops) k labels =
+    every_joined TurnsOnce (guard_of (op ∷ ops)) (λ g. put_where o g ∷ lists_of o 2 ops (suc k) labels)
+    (list_of o op (label_of k) (top_of labels) ++ lists_of o zero ops (suc k) (labels_behind (shape_of op) k labels))
+    (λ g. (refl, lists_turn o 2 ops (suc k) labels))
+    (every_on TurnsOnce (list_of o op (label_of k) (top_of labels)) (lists_of o zero ops (suc k) (labels_behind (shape_of op) k labels)) (list_turns o op (label_of k) (top_of labels)) (lists_turn o zero ops (suc k) (labels_behind (shape_of op) k labels)))
 
 -- the start values are begun in front of the first reading, wait for nothing and have no labels
 pub starts_boot : (o : Layout) (ns : List ℤ) (v : ℕ) → Every BootsOnce (start_values o ns v)
@@ -101,7 +111,7 @@ pub starts_names : (o : Layout) (ns : List ℤ) (v : ℕ) → HasNoNames (start_
 starts_names o [] v = tt
 starts_names o (n ∷ ns) v = by (int_eq n (pos 0)) _ (starts_names o ns (suc v))
   where
-    by : (b : Bool) (ps : List Paced) → HasNoNames ps → HasNoNames (if b then ps else record (put o v (number n)) { boot = 1; turns = 0 } ∷ ps)
+    by : (b : Bool) (ps : List Paced) → HasNoNames ps → HasNoNames (if b then ps else booted (move o v (number n)) ∷ ps)
     by true ps h = h
     by false ps h = ((λ l. refl), h)
 

@@ -1,13 +1,13 @@
 -- The runs of a program's code, cycle by cycle.
-use Rattle.std.proofs.Common.{◌≡◌, ℕ, zero, suc, ◌+◌, ◌<◌, ◌≤◌, inl, inr, Bool, true, false, List, [], ◌∷◌, ◌++◌, drop, length, map, Some, None, ℤ, refl, sym, ap, subst, ◌∙◌, arith, append_assoc}
-use Rattle.std.specs.Prelude.{slice_get, slice_index, nat_le}
+use Rattle.std.proofs.Common.{◌≡◌, ℕ, zero, suc, ◌+◌, ◌<◌, ◌≤◌, inl, Bool, true, false, List, [], ◌∷◌, ◌++◌, drop, length, map, Some, None, refl, sym, ap, subst, ◌∙◌, arith, append_assoc}
+use Rattle.std.specs.Prelude.{slice_get, nat_le}
 use Rattle.std.proofs.lemmas.Bool.Decides.{nat_tests}
 use Rattle.chip_tables.specs.Memory.{ram_size}
 use Rattle.chip_tables.specs.declared.outside.PinReading.{PinReading}
 use Rattle.mem_plan.specs.Needs.{ram_need}
 use Rattle.mem_plan.specs.Places.{IsChip}
 use Rattle.ladder_meaning.specs.declared.reading.Reading.{Reading}
-use Rattle.int_code.specs.Meaning.{Moment, begin, cycle, run}
+use Rattle.int_code.specs.Meaning.{Moment, begin, cycle}
 use Rattle.int_code.specs.Store as int
 use Rattle.int_code.specs.declared.op.IntOp.{IntOp}
 use Rattle.int_code.specs.declared.op.IntProgram.{IntProgram}
@@ -15,8 +15,6 @@ use Rattle.byte_code.specs.declared.prim.BytePrim.TheVariants.{Start, CyclePoll,
 use Rattle.byte_code.specs.declared.prim.Paced.{Paced}
 use Rattle.byte_code.specs.declared.prim.Shape.TheVariants.{AtPoll}
 use Rattle.byte_code.specs.declared.state.Bytes.{Bytes}
-use Rattle.byte_code.specs.declared.store.Store.{Store}
-use Rattle.byte_code.specs.Counts.{allowed}
 use Rattle.byte_code.specs.Machine.{label_place, next_with, polled}
 use Rattle.byte_code.specs.Table.{effect, plain}
 use Rattle.byte_code.specs.Table as table
@@ -25,11 +23,10 @@ use Rattle.byte_code.proofs.Ways.{Way, there, acts, way_on, Segment, Polls, keep
 use Rattle.byte_lower.proofs.BootLemmas.{started_store, seen_levels, booted_start}
 use Rattle.byte_lower.proofs.CodeLemmas.{Every, every_on, TurnsOnce, BootsOnce, IsNoPoll, lists_turn, starts_boot, starts_wait, starts_names, in_front, from_place, times_on}
 use Rattle.byte_lower.proofs.PlaceLemmas.{places_apart}
-use Rattle.byte_lower.proofs.RouteLemmas.{Rises, none_before, once, none_behind, along, along_on, HasNoNames, Ahead, Reaches, here, behind, pass, pass_all, found, beyond}
+use Rattle.byte_lower.proofs.RouteLemmas.{none_before, once, none_behind, along, along_on, HasNoNames, Ahead, Reaches, here, behind, pass, pass_all, found, beyond}
 use Rattle.byte_lower.proofs.StoreLemmas.{Good, any_flag}
 use Rattle.byte_lower.proofs.WalkLemmas.{Marks, other_label, walk}
-use Rattle.byte_lower.specs.Code.{booted, polling, start_values, code_of, CanPlace, IsFresh, IsStart, store_behind, RunsAs, Carries}
-use Rattle.byte_lower.specs.Layout.{HasPins}
+use Rattle.byte_lower.specs.Code.{booted, polling, start_values, code_of, CanPlace, store_behind, RunsAs, Carries}
 use Rattle.byte_lower.specs.Lists.{paced, lists_of}
 use Rattle.byte_lower.specs.Stands.{Stands, seen}
 use Rattle.byte_lower.specs.declared.layout.Layout.{Layout}
@@ -54,7 +51,7 @@ module _ (o : Layout) (p : IntProgram) (can : CanPlace o p) (c : IsChip o.plan.t
   front = booted (Start (ram_need o.plan.sizes)) ∷ start_values o p.starts 0
 
   abbrev lists : List Paced
-  lists = lists_of o p.ops 0 []
+  lists = lists_of o 0 p.ops 0 []
 
   abbrev loop : ℕ
   loop = along 0 front
@@ -100,7 +97,7 @@ module _ (o : Layout) (p : IntProgram) (can : CanPlace o p) (c : IsChip o.plan.t
 
   turns_once : (i : ℕ) (q : Paced) → slice_get code i ≡ Some q → loop ≤ i → q.turns ≡ 1
   turns_once i q e le =
-      from_place TurnsOnce code loop i q (subst (Every TurnsOnce) (sym at_loop) (refl, (refl, every_on TurnsOnce lists (paced (Jump 0) ∷ []) (lists_turn o p.ops 0 []) (refl, tt)))) le e
+      from_place TurnsOnce code loop i q (subst (Every TurnsOnce) (sym at_loop) (refl, (refl, every_on TurnsOnce lists (paced (Jump 0) ∷ []) (lists_turn o 0 p.ops 0 []) (refl, tt)))) le e
 
   polls_turn : (i : ℕ) (q : Paced) → slice_get code i ≡ Some q → table.shape_of q.prim ≡ AtPoll → 1 ≤ q.turns
   polls_turn i q e poll = by (nat_le loop i) refl
@@ -147,17 +144,27 @@ module _ (o : Layout) (p : IntProgram) (can : CanPlace o p) (c : IsChip o.plan.t
       walked : Reaches code AtJump last taken
       walked =
           walk code o (seen o r) (places_apart o c room) can.pins AtJump last ended (paced (Jump 0) ∷ []) (λ e shut good place. (place, shut, good)) p.ops 0 (suc (suc loop)) [] [] (begin (seen o r) store_k) taken
-          can.built can.range can.numbers at_lists refl can.nests tt marks refl
           (record {
-            closed = h.closed;
-            good = record {
-              stands = record { bits = h.stands.bits; outputs = h.stands.outputs; numbers = h.stands.numbers };
-              levels = seen_levels o r.levels;
-              cells = h.cells;
-              latches = h.latches;
-              shown = h.shown;
+            built = can.built;
+            range = can.range;
+            hold = can.numbers;
+            ahead = at_lists;
+            to = refl;
+            nested = can.nests;
+            alike = tt;
+            marks = marks;
+            ends = refl;
+            at_place = record {
+              closed = h.closed;
+              good = record {
+                stands = record { bits = h.stands.bits; outputs = h.stands.outputs; numbers = h.stands.numbers };
+                levels = seen_levels o r.levels;
+                cells = h.cells;
+                latches = h.latches;
+                shown = h.shown;
+              };
+              stands_at = inl (refl, ap suc h.is_at);
             };
-            stands_at = inl (refl, ap suc h.is_at);
           })
 
       goes_back : (e : Bytes) → AtJump e → Way code (AtCycle (suc k)) e back []

@@ -10,3 +10,6 @@ pub mod PlaceLemmas
 pub mod CodeLemmas
 pub mod BootLemmas
 pub mod CycleLemmas
+pub mod ListLemmas
+pub mod PinLemmas
+pub mod SampleLemmas

@@ -1,5 +1,5 @@
 -- The places of a layout are apart, and in data memory.
-use Rattle.std.proofs.Common.{◌≡◌, ◌≢◌, ℕ, zero, suc, ◌+◌, ◌-◌, ◌*◌, ◌/◌, ◌%◌, ◌<◌, ◌≤◌, ⊎_elim, inl, inr, Bool, true, false, cond, List, [], ◌∷◌, Option, Some, None, refl, sym, ap, subst, ◌∙◌, arith}
+use Rattle.std.proofs.Common.{◌≡◌, ◌≢◌, ℕ, ◌+◌, ◌-◌, ◌*◌, ◌/◌, ◌%◌, ◌<◌, ◌≤◌, inl, inr, Bool, true, false, Option, Some, None, refl, sym, ap, subst, ◌∙◌, arith}
 use Rattle.std.specs.Prelude.{◌⊎◌, ◌==◌, nat_lt, if◌then◌else◌, unwrap_or}
 use Rattle.std.proofs.lemmas.Bool.Decides.{nat_tests}
 use Rattle.chip_tables.specs.Memory.{ram_size, ram_address}
@@ -9,7 +9,7 @@ use Rattle.chip_tables.specs.declared.scratch.TheConstants.{WIRES}
 use Rattle.chip_tables.specs.declared.target.Target.{Target}
 use Rattle.chip_tables.specs.declared.target.Target.TheVariants.{F628, F877, Mega16, Interp, AnsiC}
 use Rattle.mem_plan.specs.Needs.{ram_need}
-use Rattle.mem_plan.specs.Places.{IsChip, low_byte, high_byte, byte_of_bit, bit_in_byte}
+use Rattle.mem_plan.specs.Places.{IsChip, low_byte, high_byte}
 use Rattle.mem_plan.proofs.ApartLemmas.{apart}
 use Rattle.byte_lower.proofs.StoreLemmas.{Apart}
 use Rattle.byte_lower.specs.Layout.{word_cell, kept_cell, wire_cell, bit_cell}

@@ -1,6 +1,6 @@
 -- What the list of each operation does where its branch runs.
-use Rattle.std.proofs.Common.{◌≡◌, ℕ, suc, ◌+◌, ◌*◌, ◌%◌, ◌-◌, ◌<◌, inl, inr, Bool, true, false, not, List, [], ◌∷◌, ◌++◌, drop, get_or, ℤ, pos, refl, sym, ap, subst, ◌∙◌, arith}
-use Rattle.std.specs.Prelude.{◌⊎◌, ◌&&◌, nat_lt, ◌==◌, int_lt, ◌+ℤ◌, ◌-ℤ◌, neg_ℤ, if◌then◌else◌, Some, None}
+use Rattle.std.proofs.Common.{◌≡◌, ℕ, suc, ◌+◌, ◌%◌, ◌<◌, inl, inr, Bool, true, false, not, List, [], ◌∷◌, ◌++◌, drop, get_or, ℤ, pos, refl, sym, ap, subst, ◌∙◌, arith}
+use Rattle.std.specs.Prelude.{◌⊎◌, ◌&&◌, nat_lt, int_lt, ◌+ℤ◌, ◌-ℤ◌, neg_ℤ, if◌then◌else◌, None}
 use Rattle.std.specs.Ordering.{int_eq}
 use Rattle.ld_base.specs.Wrap.{wrap}
 use Rattle.ladder_tree.specs.declared.element.MathHow.TheVariants as how
@@ -32,16 +32,14 @@ use Rattle.byte_code.specs.declared.prim.WordOp.TheVariants as words
 use Rattle.byte_code.specs.declared.prim.WordOp.{WordOp}
 use Rattle.byte_code.specs.declared.prim.CompareOp.{CompareOp}
 use Rattle.byte_code.specs.declared.prim.FlagKind.{FlagKind}
-use Rattle.byte_code.specs.declared.prim.WordSource.{WordSource}
 use Rattle.byte_code.specs.declared.state.Bytes.{Bytes}
-use Rattle.byte_code.specs.declared.store.Store.{Store}
 use Rattle.byte_code.specs.Counts.{TestFits}
-use Rattle.byte_code.specs.Machine.{label_place, next_with, goes_to}
+use Rattle.byte_code.specs.Machine.{label_place, next_with}
 use Rattle.byte_code.specs.Store.{bit_from, word_at, word_from, with_bit_at, with_word, lifted}
 use Rattle.byte_code.specs.Table.{plain, flagged, same, says, tested, word_effect, compare_effect}
 use Rattle.byte_lower.proofs.GoLemmas.{bit_go, word_go, compare_go, label_go, jump_go, where_go}
 use Rattle.byte_lower.proofs.RouteLemmas.{along, Reaches, Ahead, behind, pass}
-use Rattle.byte_lower.proofs.StoreLemmas.{Apart, Good, any_flag, bit_written, word_written, bit_read, is_shown, word_read, number_read}
+use Rattle.byte_lower.proofs.StoreLemmas.{Apart, Good, any_flag, bit_written, word_written, bit_read, is_shown, number_read}
 use Rattle.byte_lower.proofs.WordLemmas.{wrapped, sum_word, difference_word, opposite_sum, less_word, equal_word, next_less, next_number, none_above, equal_turned}
 use Rattle.byte_lower.specs.Layout.{word_cell, dest_of, source_of, room_of, HasPins}
 use Rattle.byte_lower.specs.Lists.{is_built, paced, number, word_in, label_of, list_of, top_of, labels_behind, compare_less, jump_where, unless_less, unless_equal, sum, difference}
@@ -75,11 +73,11 @@ one_word = record { number = refl; word = refl }
 abbrev pub OpensOf : IntOp → List ℕ → List Bool → Type 0
 OpensOf op labels ifs = HasOpen (shape_of op) labels ifs
 
-same_true_is : (x : Bool) → same x true ≡ x
+pub same_true_is : (x : Bool) → same x true ≡ x
 same_true_is true = refl
 same_true_is false = refl
 
-same_false_is : (x : Bool) → same x false ≡ not x
+pub same_false_is : (x : Bool) → same x false ≡ not x
 same_false_is true = refl
 same_false_is false = refl
 
@@ -117,6 +115,22 @@ module _ (code : List Paced) (o : Layout) (r : Reading) (apart : Apart o) (pins 
         let d = with_bit_at s.store (dest_of o b) x in
         bit_go code Goal last s at rest is_at (bits.Copy (dest_of o b) (source_of o f) inverted) e (is_shown o r apart pins s.store t f good)
         (n _ (record { closed = closed; good = subst (λ y. Good o r (plain d) (with t b y)) is (any_flag o r apart pins d (with t b x) None (bit_written o r apart pins s.store t b x h good)); stands_at = inl (run, ap suc is_at) }))
+
+    put_by : (b : written.BitDest) (x c : Bool) → IsDest (room_of o) b → Good o r (plain (if c then with_bit_at s.store (dest_of o b) x else s.store)) (if c then with t b x else t)
+    put_by b x true h = any_flag o r apart pins (with_bit_at s.store (dest_of o b) x) (with t b x) None (bit_written o r apart pins s.store t b x h good)
+    put_by b x false h = any_flag o r apart pins s.store t None good
+
+    -- a bit takes a value where another is so
+    pub guard_step : (f : read.BitSource) (is : Bool) (b : written.BitDest) (x : Bool) → IsSource (room_of o) f → IsDest (room_of o) b →
+        drop at code ≡ paced (Bit (bits.PutIf (source_of o f) is (dest_of o b) x)) ∷ rest → Then (suc at) labels ifs (if same (value_of r t f) is then with t b x else t) → Reaches code Goal last s
+    guard_step f is b x g h e n =
+        let c = same (bit_from s.store (source_of o f)) is in
+        bit_go code Goal last s at rest is_at (bits.PutIf (source_of o f) is (dest_of o b) x) e (is_shown o r apart pins s.store t f good)
+        (n _ (record {
+          closed = closed;
+          good = subst (λ y. Good o r (plain (if c then with_bit_at s.store (dest_of o b) x else s.store)) (if y then with t b x else t)) (ap (λ y. same y is) (bit_read o r apart pins s.store t f g good)) (put_by b x c h);
+          stands_at = inl (run, ap suc is_at);
+        }))
 
     -- a variable becomes a number whose word is put at its place
     word_step : (op : WordOp) (v : ℕ) (z : ℤ) (w : ℕ) → v < o.plan.sizes.variables → IsWordOf z w → word_effect op s.store ≡ with_word s.store (word_cell o v) w →

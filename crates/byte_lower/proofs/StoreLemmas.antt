@@ -1,5 +1,5 @@
 -- What is written to a place, and what is read from it, where bytes stand for a store.
-use Rattle.std.proofs.Common.{◌≡◌, ◌≢◌, ℕ, ◌+◌, ◌*◌, ◌/◌, ◌%◌, ◌<◌, inl, inr, Bool, true, false, List, length, ℤ, refl, sym, ap, subst, ◌∙◌, arith, length-set, slice_index, slice_set}
+use Rattle.std.proofs.Common.{◌≡◌, ◌≢◌, ℕ, ◌+◌, ◌<◌, inl, inr, Bool, true, false, List, length, ℤ, refl, sym, ap, subst, ◌∙◌, arith, length-set, slice_index, slice_set}
 use Rattle.std.specs.Prelude.{◌⊎◌, nat_eq, if◌then◌else◌, slice_index_or}
 use Rattle.std.proofs.lemmas.Bool.{cases_eq}
 use Rattle.std.proofs.lemmas.Bool.Decides.{nat_tests}
@@ -9,10 +9,9 @@ use Rattle.chip_tables.specs.declared.pins.PortBit.{PortBit}
 use Rattle.chip_tables.specs.declared.scratch.TheConstants.{WIRES}
 use Rattle.ladder_meaning.specs.Numbers.{IsNumber}
 use Rattle.ladder_meaning.specs.declared.reading.Reading.{Reading}
-use Rattle.int_code.specs.Literals.{HoldsNumber}
 use Rattle.int_code.specs.Store.{value_of, number_of, with, with_number}
 use Rattle.int_code.specs.Store as int
-use Rattle.int_code.specs.WellFormed.{IsDest, IsSource, IsNumSource}
+use Rattle.int_code.specs.WellFormed.{IsDest, IsSource}
 use Rattle.int_code.specs.declared.op.BitDest as written
 use Rattle.int_code.specs.declared.op.BitDest.TheVariants as opdest
 use Rattle.int_code.specs.declared.op.BitSource as read

@@ -1,16 +1,20 @@
 -- The lists of all operations, one after another.
-use Rattle.std.proofs.Common.{◌≡◌, ◌≢◌, ℕ, zero, suc, ◌+◌, ◌<◌, ◌≤◌, ⊎_elim, inl, inr, Bool, true, false, not, List, [], ◌∷◌, ◌++◌, drop, get_or, refl, sym, ap, subst, ◌∙◌, arith, append_assoc}
-use Rattle.std.specs.Prelude.{◌⊎◌, ◌&&◌, ◌==◌, if◌then◌else◌, All, int_lt, pos, Some, None}
+use Rattle.std.proofs.Common.{◌≡◌, ◌≢◌, ℕ, zero, suc, ◌<◌, ◌≤◌, ⊎_elim, inl, inr, Bool, true, false, not, List, [], ◌∷◌, ◌++◌, drop, refl, sym, ap, subst, ◌∙◌, arith, append_assoc}
+use Rattle.std.specs.Prelude.{Option, ◌⊎◌, ◌&&◌, ◌==◌, if◌then◌else◌, All, int_lt, pos, Some, None}
 use Rattle.std.proofs.lemmas.Bool.Decides.{nat_tests}
 use Rattle.std.proofs.lemmas.List.Elements.{All-head, All-tail}
 use Rattle.std.specs.Ordering.{int_eq}
 use Rattle.ladder_meaning.specs.declared.reading.Reading.{Reading}
 use Rattle.int_code.specs.Literals.{HoldsNumbers}
-use Rattle.int_code.specs.Meaning.{Moment, all_run, holds, ifs_behind, ifs_after, is_reached, is_reached_by, store_after, step, run}
+use Rattle.int_code.specs.Meaning.{Moment, all_run, holds, ifs_behind, is_reached, is_reached_by, store_after, step, run}
 use Rattle.int_code.specs.Shapes.{shape_of}
 use Rattle.int_code.specs.Stands.{IsOff}
 use Rattle.int_code.specs.Store as int
-use Rattle.int_code.specs.WellFormed.{nests, nests_by, IsInRange}
+use Rattle.int_code.specs.Store.{value_of}
+use Rattle.int_code.specs.WellFormed.{nests, nests_by, IsDest, IsSource, IsInRange}
+use Rattle.int_code.specs.declared.op.BitDest as written
+use Rattle.int_code.specs.declared.op.BitSource as read
+use Rattle.byte_code.specs.Table.{same}
 use Rattle.int_code.specs.declared.op.IntOp.{IntOp}
 use Rattle.int_code.specs.declared.op.IntOp.TheVariants.{Set, Clr, Cpy, Not, Ifs, Ifc, Iflt, Ifeq, Ifee, Els, Fi, Lit, Mov, Add, Sub, Inc, Dec}
 use Rattle.int_code.specs.declared.op.NumSource.{NumSource}
@@ -19,15 +23,15 @@ use Rattle.int_code.specs.declared.op.Shape.{Shape}
 use Rattle.int_code.specs.declared.op.Shape.TheVariants.{Opens, Turns, Closes, Plain}
 use Rattle.byte_code.specs.declared.prim.BytePrim.TheVariants.{Label, Jump}
 use Rattle.byte_code.specs.declared.prim.Paced.{Paced}
-use Rattle.byte_code.specs.declared.prim.Shape.TheVariants.{Names}
 use Rattle.byte_code.specs.declared.state.Bytes.{Bytes}
-use Rattle.byte_code.specs.Machine.{label_place, is_name}
+use Rattle.byte_code.specs.Machine.{label_place}
 use Rattle.byte_lower.proofs.GoLemmas.{label_go}
 use Rattle.byte_lower.proofs.RouteLemmas.{along, along_on, HasNoNames, Reaches, arrive, Ahead, behind, beyond, pass, pass_all, found}
-use Rattle.byte_lower.proofs.StepLemmas.{HasOpen, OpensOf, Sleeps, At, label_at, step_of}
+use Rattle.byte_lower.proofs.StepLemmas.{same_true_is, same_false_is, guard_step, HasOpen, OpensOf, Sleeps, At, label_at, step_of}
 use Rattle.byte_lower.proofs.StoreLemmas.{Apart, Good, any_flag}
 use Rattle.byte_lower.specs.Layout.{room_of, HasPins}
-use Rattle.byte_lower.specs.Lists.{is_built, paced, label_of, list_of, lists_of, top_of, labels_behind, unless_less, unless_equal, sum, difference}
+use Rattle.byte_lower.specs.Lists.{is_built, paced, label_of, list_of, lists_of, top_of, labels_behind, unless_less, unless_equal, sum, difference, guard_by, put_where, joined}
+use Rattle.byte_lower.specs.declared.guard.Guard.{Guard}
 use Rattle.byte_lower.specs.declared.layout.Layout.{Layout}
 
 -- all but els and fi have no label in their lists
@@ -166,6 +170,47 @@ kept_asleep r Els m depth off = if_same (is_reached Els m.ifs) m.store
 kept_asleep r Fi m depth off = if_same (is_reached Fi m.ifs) m.store
 kept_asleep r op m depth off = ap (λ b. if b then store_after r op m.store else m.store) (off_stops depth m.ifs off)
 
+-- what the three operations of a guarded write do
+pub record Guarded (o : Layout) (r : Reading) (x y z : IntOp) (g : Guard) : Type 0 where
+  nest : (ops : List IntOp) (es : List Bool) → nests (x ∷ y ∷ z ∷ ops) es ≡ nests ops es
+  ifs : (m : Moment) → (step r z (step r y (step r x m))).ifs ≡ m.ifs
+  store : (m : Moment) → (step r z (step r y (step r x m))).store ≡ (if all_run m.ifs then (if same (value_of r m.store g.from) g.is then int.with m.store g.to g.value else m.store) else m.store)
+  pub source : IsInRange (room_of o) x → IsSource (room_of o) g.from
+  pub dest : IsInRange (room_of o) y → IsDest (room_of o) g.to
+
+three_stores : (b v : Bool) (t : int.Store) (f : int.Store → int.Store) →
+    (if b then (if b && v then f (if b then t else t) else (if b then t else t)) else (if b && v then f (if b then t else t) else (if b then t else t))) ≡ (if b then (if v then f t else t) else t)
+three_stores true true t f = refl
+three_stores true false t f = refl
+three_stores false true t f = refl
+three_stores false false t f = refl
+
+stored : (b v w : Bool) (t : int.Store) (f : int.Store → int.Store) → w ≡ v →
+    (if b then (if b && v then f (if b then t else t) else (if b then t else t)) else (if b && v then f (if b then t else t) else (if b then t else t))) ≡ (if b then (if w then f t else t) else t)
+stored b v w t f e = three_stores b v t f ∙ ap (λ c. if b then (if c then f t else t) else t) (sym e)
+
+guard_set : (o : Layout) (r : Reading) (s : read.BitSource) (b : written.BitDest) → Guarded o r (Ifs s) (Set b) Fi (record { from = s; is = true; to = b; value = true })
+guard_set o r s b = record { nest = λ ops es. refl; ifs = λ m. refl; store = λ m. stored (all_run m.ifs) (value_of r m.store s) (same (value_of r m.store s) true) m.store (λ t. int.with t b true) (same_true_is (value_of r m.store s)); source = λ h. h; dest = λ h. h }
+
+guard_clear : (o : Layout) (r : Reading) (s : read.BitSource) (b : written.BitDest) → Guarded o r (Ifs s) (Clr b) Fi (record { from = s; is = true; to = b; value = false })
+guard_clear o r s b = record { nest = λ ops es. refl; ifs = λ m. refl; store = λ m. stored (all_run m.ifs) (value_of r m.store s) (same (value_of r m.store s) true) m.store (λ t. int.with t b false) (same_true_is (value_of r m.store s)); source = λ h. h; dest = λ h. h }
+
+guard_set_off : (o : Layout) (r : Reading) (s : read.BitSource) (b : written.BitDest) → Guarded o r (Ifc s) (Set b) Fi (record { from = s; is = false; to = b; value = true })
+guard_set_off o r s b = record { nest = λ ops es. refl; ifs = λ m. refl; store = λ m. stored (all_run m.ifs) (not (value_of r m.store s)) (same (value_of r m.store s) false) m.store (λ t. int.with t b true) (same_false_is (value_of r m.store s)); source = λ h. h; dest = λ h. h }
+
+guard_clear_off : (o : Layout) (r : Reading) (s : read.BitSource) (b : written.BitDest) → Guarded o r (Ifc s) (Clr b) Fi (record { from = s; is = false; to = b; value = false })
+guard_clear_off o r s b = record { nest = λ ops es. refl; ifs = λ m. refl; store = λ m. stored (all_run m.ifs) (not (value_of r m.store s)) (same (value_of r m.store s) false) m.store (λ t. int.with t b false) (same_false_is (value_of r m.store s)); source = λ h. h; dest = λ h. h }
+
+some_guard : (a b : Guard) → Some a ≡ Some b → a ≡ b
+some_guard a b e = cc
+
+pub guard_facts : (o : Layout) (r : Reading) (x y z : IntOp) (g : Guard) → guard_by x y z ≡ Some g → Guarded o r x y z g
+guard_facts o r (Ifs s) (Set b) Fi g e = subst (Guarded o r (Ifs s) (Set b) Fi) (some_guard (record { from = s; is = true; to = b; value = true }) g e) (guard_set o r s b)
+guard_facts o r (Ifs s) (Clr b) Fi g e = subst (Guarded o r (Ifs s) (Clr b) Fi) (some_guard (record { from = s; is = true; to = b; value = false }) g e) (guard_clear o r s b)
+guard_facts o r (Ifc s) (Set b) Fi g e = subst (Guarded o r (Ifc s) (Set b) Fi) (some_guard (record { from = s; is = false; to = b; value = true }) g e) (guard_set_off o r s b)
+guard_facts o r (Ifc s) (Clr b) Fi g e = subst (Guarded o r (Ifc s) (Clr b) Fi) (some_guard (record { from = s; is = false; to = b; value = false }) g e) (guard_clear_off o r s b)
+guard_facts o r x y z g e = absurd (cc)
+
 module _ (code : List Paced) where
   abbrev pub AllAhead : ℕ → List ℕ → Type 0
   AllAhead at [] = Unit {0}
@@ -206,6 +251,9 @@ module _ (code : List Paced) where
     ahead = all_pass at labels ps rest e none m.ahead;
     falls = falls_up (suc k) (suc (suc k)) labels (omega arith) m.falls;
   }
+
+  marks_far : (at k j : ℕ) (labels : List ℕ) → k ≤ j → Marks at k labels → Marks at j labels
+  marks_far at k j labels h m = record { later = λ l f. m.later l (omega (arith, f, h)); ahead = m.ahead; falls = falls_up (suc k) (suc j) labels (omega (arith, h)) m.falls }
 
   marks_closes : (at k l : ℕ) (labels : List ℕ) (rest : List Paced) → drop at code ≡ paced (Label l) ∷ rest → Marks at k (l ∷ labels) → Marks (suc at) (suc k) labels
   marks_closes at k l labels rest e m =
@@ -310,28 +358,108 @@ module _ (code : List Paced) (o : Layout) (r : Reading) (apart : Apart o) (pins 
   at_end at (l ∷ labels) (b ∷ ifs) (e ∷ es) place n a (inr z) = absurd (cc)
 
   module _ (end : Moment) (back : List Paced) (arrives : (s : Bytes) → s.open_call ≡ None → Good o r s.store end.store → s.place ≡ last → Goal s) where
-    -- from where operations are to be run, to where all have been run
-    pub walk : (ops : List IntOp) (k at : ℕ) (labels : List ℕ) (es : List Bool) (m : Moment) (s : Bytes) →
-        All (λ op. is_built op ≡ true) ops → All (IsInRange (room_of o)) ops → All HoldsNumbers ops →
-        drop at code ≡ lists_of o ops k labels ++ back → along at (lists_of o ops k labels) ≡ last → nests ops es ≡ true → Alike labels m.ifs es → Marks code at k labels →
-        run r ops m ≡ end → At code o r apart pins Goal last s at labels m.ifs m.store → Reaches code Goal last s
-    walk [] k at labels es m s built range hold e to n a marks ends h =
-        let is_at = at_end at labels m.ifs es s.place n a h.stands_at in
-        arrive code Goal last s (arrives s h.closed (subst (λ x. Good o r s.store x.store) ends h.good) (is_at ∙ to)) (is_at ∙ to)
-    walk (op ∷ ops) k at labels es m s built range hold e to n a marks ends h =
+    -- from where operations are to be run
+    pub record Ready (ops : List IntOp) (k at : ℕ) (labels : List ℕ) (es : List Bool) (m : Moment) (s : Bytes) : Type 0 where
+      pub built : All (λ op. is_built op ≡ true) ops
+      pub range : All (IsInRange (room_of o)) ops
+      pub hold : All HoldsNumbers ops
+      pub ahead : drop at code ≡ lists_of o 0 ops k labels ++ back
+      pub to : along at (lists_of o 0 ops k labels) ≡ last
+      pub nested : nests ops es ≡ true
+      pub alike : Alike labels m.ifs es
+      pub marks : Marks code at k labels
+      pub ends : run r ops m ≡ end
+      pub at_place : At code o r apart pins Goal last s at labels m.ifs m.store
+
+    at_last : (k at : ℕ) (labels : List ℕ) (es : List Bool) (m : Moment) (s : Bytes) → Ready [] k at labels es m s → Reaches code Goal last s
+    at_last k at labels es m s h =
+        let is_at = at_end at labels m.ifs es s.place h.nested h.alike h.at_place.stands_at in
+        arrive code Goal last s (arrives s h.at_place.closed (subst (λ x. Good o r s.store x.store) h.ends h.at_place.good) (is_at ∙ h.to)) (is_at ∙ h.to)
+
+    -- by the list of one operation
+    one_on : (op : IntOp) (ops : List IntOp) (k at : ℕ) (labels : List ℕ) (es : List Bool) (m : Moment) (s : Bytes) → Ready (op ∷ ops) k at labels es m s →
+        lists_of o 0 (op ∷ ops) k labels ≡ list_of o op (label_of k) (top_of labels) ++ lists_of o 0 ops (suc k) (labels_behind (shape_of op) k labels) →
+        ((at1 : ℕ) (es1 : List Bool) (s1 : Bytes) → Ready ops (suc k) at1 (labels_behind (shape_of op) k labels) es1 (step r op m) s1 → Reaches code Goal last s1) → Reaches code Goal last s
+    one_on op ops k at labels es m s h split next_on =
         let ps = list_of o op (label_of k) (top_of labels) in
         let labels1 = labels_behind (shape_of op) k labels in
-        let rest = lists_of o ops (suc k) labels1 ++ back in
-        let e1 : drop at code ≡ ps ++ rest = e ∙ append_assoc ps (lists_of o ops (suc k) labels1) back in
-        let opens = opened_of (shape_of op) (nests ops) labels m.ifs es n a in
-        let next = nested_on (shape_of op) k (holds r op m.store) (nests ops) labels m.ifs es n a in
+        let tail = lists_of o 0 ops (suc k) labels1 in
+        let rest = tail ++ back in
+        let e1 : drop at code ≡ ps ++ rest = h.ahead ∙ ap (λ x. x ++ back) split ∙ append_assoc ps tail back in
+        let to1 : along at (ps ++ tail) ≡ last = ap (along at) (sym split) ∙ h.to in
+        let opens = opened_of (shape_of op) (nests ops) labels m.ifs es h.nested h.alike in
+        let next = nested_on (shape_of op) k (holds r op m.store) (nests ops) labels m.ifs es h.nested h.alike in
         let go_on : (s1 : Bytes) → At code o r apart pins Goal last s1 (along at ps) labels1 (step r op m).ifs (step r op m).store → Reaches code Goal last s1 =
-        λ s1 h1. walk ops (suc k) (along at ps) labels1 next.behind_es (step r op m) s1 (All-tail (λ x. is_built x ≡ true) op ops built) (All-tail (IsInRange (room_of o)) op ops range) (All-tail HoldsNumbers op ops hold)
-        (beyond code at ps rest e1) (sym (along_on at ps (lists_of o ops (suc k) labels1)) ∙ to) next.nested next.alike (marks_on code o op at k labels m.ifs rest opens e1 marks) ends h1 in
+        λ s1 h1. next_on (along at ps) next.behind_es s1 (record {
+          built = All-tail (λ x. is_built x ≡ true) op ops h.built;
+          range = All-tail (IsInRange (room_of o)) op ops h.range;
+          hold = All-tail HoldsNumbers op ops h.hold;
+          ahead = beyond code at ps rest e1;
+          to = sym (along_on at ps tail) ∙ to1;
+          nested = next.nested;
+          alike = next.alike;
+          marks = marks_on code o op at k labels m.ifs rest opens e1 h.marks;
+          ends = h.ends;
+          at_place = h1;
+        }) in
         ⊎_elim
-        (λ awake. step_of code o r apart pins Goal last k at rest labels m.store s h.closed h.good awake.1 (marks.later (suc k) (omega arith)) op m.ifs
-        (All-head (λ x. is_built x ≡ true) op ops built) (All-head (IsInRange (room_of o)) op ops range) (All-head HoldsNumbers op ops hold) opens awake.0 e1
+        (λ awake. step_of code o r apart pins Goal last k at rest labels m.store s h.at_place.closed h.at_place.good awake.1 (h.marks.later (suc k) (omega arith)) op m.ifs
+        (All-head (λ x. is_built x ≡ true) op ops h.built) (All-head (IsInRange (room_of o)) op ops h.range) (All-head HoldsNumbers op ops h.hold) opens awake.0 e1
         (λ s1 h1. go_on s1 (subst (λ x. At code o r apart pins Goal last s1 (along at ps) labels1 (step r op m).ifs (if x then store_after r op m.store else m.store)) (sym (reached_awake (shape_of op) m.ifs awake.0)) h1)))
-        (λ z. sleep_of k at rest m.store s h.closed h.good op labels m.ifs (holds r op m.store) opens z e1 marks
+        (λ z. sleep_of k at rest m.store s h.at_place.closed h.at_place.good op labels m.ifs (holds r op m.store) opens z e1 h.marks
         (λ s1 h1. go_on s1 (subst (λ x. At code o r apart pins Goal last s1 (along at ps) labels1 (step r op m).ifs x) (sym (kept_asleep r op m z.depth z.off)) h1)))
-        h.stands_at
+        h.at_place.stands_at
+
+    -- by the one primitive of an if
+    guard_on : (x y z : IntOp) (g : Guard) (ops : List IntOp) (k at : ℕ) (labels : List ℕ) (es : List Bool) (m : Moment) (s : Bytes) → guard_by x y z ≡ Some g → Ready (x ∷ y ∷ z ∷ ops) k at labels es m s →
+        lists_of o 0 (x ∷ y ∷ z ∷ ops) k labels ≡ put_where o g ∷ lists_of o 0 ops (suc (suc (suc k))) labels →
+        ((at1 : ℕ) (s1 : Bytes) → Ready ops (suc (suc (suc k))) at1 labels es (step r z (step r y (step r x m))) s1 → Reaches code Goal last s1) → Reaches code Goal last s
+    guard_on x y z g ops k at labels es m s is h split next_on =
+        let p = put_where o g in
+        let tail = lists_of o 0 ops (suc (suc (suc k))) labels in
+        let rest = tail ++ back in
+        let e1 : drop at code ≡ p ∷ rest = h.ahead ∙ ap (λ l. l ++ back) split in
+        let to1 : along (suc at) tail ≡ last = ap (along at) (sym split) ∙ h.to in
+        let guarded = guard_facts o r x y z g is in
+        let ranges = All-tail (IsInRange (room_of o)) x (y ∷ z ∷ ops) h.range in
+        let m3 = step r z (step r y (step r x m)) in
+        let go_on : (s1 : Bytes) → At code o r apart pins Goal last s1 (suc at) labels m.ifs (if all_run m.ifs then (if same (value_of r m.store g.from) g.is then int.with m.store g.to g.value else m.store) else m.store) → Reaches code Goal last s1 =
+        λ s1 h1. next_on (suc at) s1 (record {
+          built = All-tail (λ q. is_built q ≡ true) z ops (All-tail (λ q. is_built q ≡ true) y (z ∷ ops) (All-tail (λ q. is_built q ≡ true) x (y ∷ z ∷ ops) h.built));
+          range = All-tail (IsInRange (room_of o)) z ops (All-tail (IsInRange (room_of o)) y (z ∷ ops) ranges);
+          hold = All-tail HoldsNumbers z ops (All-tail HoldsNumbers y (z ∷ ops) (All-tail HoldsNumbers x (y ∷ z ∷ ops) h.hold));
+          ahead = behind code at p rest e1;
+          to = to1;
+          nested = sym (guarded.nest ops es) ∙ h.nested;
+          alike = subst (λ ifs. Alike labels ifs es) (sym (guarded.ifs m)) h.alike;
+          marks = marks_far code (suc at) (suc k) (suc (suc (suc k))) labels (omega arith) (marks_plain code at k labels (p ∷ []) rest e1 ((λ l. refl), tt) h.marks);
+          ends = h.ends;
+          at_place = subst (λ ifs. At code o r apart pins Goal last s1 (suc at) labels ifs m3.store) (sym (guarded.ifs m)) (subst (λ t. At code o r apart pins Goal last s1 (suc at) labels m.ifs t) (sym (guarded.store m)) h1);
+        }) in
+        ⊎_elim
+        (λ awake. guard_step code o r apart pins Goal last k at rest labels m.ifs m.store s h.at_place.closed h.at_place.good awake.0 awake.1 g.from g.is g.to g.value
+        (guarded.source (All-head (IsInRange (room_of o)) x (y ∷ z ∷ ops) h.range)) (guarded.dest (All-head (IsInRange (room_of o)) y (z ∷ ops) ranges)) e1
+        (λ s1 h1. go_on s1 (subst (λ b. At code o r apart pins Goal last s1 (suc at) labels m.ifs (if b then (if same (value_of r m.store g.from) g.is then int.with m.store g.to g.value else m.store) else m.store)) (sym awake.0) h1)))
+        (λ w. still k at rest m.store s h.at_place.closed h.at_place.good labels m.ifs (suc at) w
+        (λ s1 h1. go_on s1 (subst (λ b. At code o r apart pins Goal last s1 (suc at) labels m.ifs (if b then (if same (value_of r m.store g.from) g.is then int.with m.store g.to g.value else m.store) else m.store)) (sym (off_stops w.depth m.ifs w.off)) h1)))
+        h.at_place.stands_at
+
+    three_on : (x y z : IntOp) (ops : List IntOp) (k at : ℕ) (labels : List ℕ) (es : List Bool) (m : Moment) (s : Bytes) (g : Option Guard) → guard_by x y z ≡ g → Ready (x ∷ y ∷ z ∷ ops) k at labels es m s →
+        ((at1 : ℕ) (es1 : List Bool) (s1 : Bytes) → Ready (y ∷ z ∷ ops) (suc k) at1 (labels_behind (shape_of x) k labels) es1 (step r x m) s1 → Reaches code Goal last s1) →
+        ((at1 : ℕ) (s1 : Bytes) → Ready ops (suc (suc (suc k))) at1 labels es (step r z (step r y (step r x m))) s1 → Reaches code Goal last s1) → Reaches code Goal last s
+    three_on x y z ops k at labels es m s None is h one far =
+        one_on x (y ∷ z ∷ ops) k at labels es m s h
+        (ap (λ g. joined g (λ q. put_where o q ∷ lists_of o 2 (y ∷ z ∷ ops) (suc k) labels) (list_of o x (label_of k) (top_of labels) ++ lists_of o 0 (y ∷ z ∷ ops) (suc k) (labels_behind (shape_of x) k labels))) is) one
+    three_on x y z ops k at labels es m s (Some g) is h one far =
+        guard_on x y z g ops k at labels es m s is h
+        (ap (λ g. joined g (λ q. put_where o q ∷ lists_of o 2 (y ∷ z ∷ ops) (suc k) labels) (list_of o x (label_of k) (top_of labels) ++ lists_of o 0 (y ∷ z ∷ ops) (suc k) (labels_behind (shape_of x) k labels))) is) far
+
+    -- to where all have been run
+    pub walk : (ops : List IntOp) (k at : ℕ) (labels : List ℕ) (es : List Bool) (m : Moment) (s : Bytes) → Ready ops k at labels es m s → Reaches code Goal last s
+    walk [] k at labels es m s h = at_last k at labels es m s h
+    walk (x ∷ []) k at labels es m s h = one_on x [] k at labels es m s h refl (λ at1 es1 s1 h1. walk [] (suc k) at1 (labels_behind (shape_of x) k labels) es1 (step r x m) s1 h1)
+    walk (x ∷ y ∷ []) k at labels es m s h = one_on x (y ∷ []) k at labels es m s h refl (λ at1 es1 s1 h1. walk (y ∷ []) (suc k) at1 (labels_behind (shape_of x) k labels) es1 (step r x m) s1 h1)
+    walk (x ∷ y ∷ z ∷ ops) k at labels es m s h =
+        three_on x y z ops k at labels es m s (guard_by x y z) refl h
+        (λ at1 es1 s1 h1. walk (y ∷ z ∷ ops) (suc k) at1 (labels_behind (shape_of x) k labels) es1 (step r x m) s1 h1)
+        (λ at1 s1 h1. walk ops (suc (suc (suc k))) at1 labels es (step r z (step r y (step r x m))) s1 h1)

@@ -1,7 +1,7 @@
 -- Numbers of 16 bits with a sign, and words.
 use Rattle.std.proofs.Common.{◌≡◌, ℕ, zero, suc, ◌+◌, ◌*◌, ◌-◌, ◌/◌, ◌%◌, ◌<◌, ◌≤◌, inl, inr, Bool, true, false, ltb, cond, ℤ, pos, negsuc, refl, sym, ap, subst, ◌∙◌, arith}
-use Rattle.std.specs.Prelude.{◌⊎◌, nat_lt, nat_le, ◌==◌, int_lt, int_le, ◌+ℤ◌, ◌-ℤ◌, neg_ℤ, not, ◌&&◌, unsigned_abs}
-use Rattle.std.specs.Int.{int_wrap, w16, cast_signed, int_rem_euclid}
+use Rattle.std.specs.Prelude.{◌⊎◌, nat_lt, nat_le, ◌==◌, int_lt, int_le, ◌+ℤ◌, ◌-ℤ◌, neg_ℤ, not}
+use Rattle.std.specs.Int.{int_wrap, w16, cast_signed}
 use Rattle.std.specs.Int.RustNames.{FitsSigned}
 use Rattle.std.specs.Ordering.{int_eq}
 use Rattle.std.proofs.lemmas.Bool.Decides.{nat_tests, Decides-int_eq}

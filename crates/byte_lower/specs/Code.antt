@@ -20,7 +20,7 @@ use Rattle.byte_code.specs.declared.state.Bytes.{Bytes}
 use Rattle.byte_code.specs.Counts.{Counted, counted_step, uncounted, KeepsCounts}
 use Rattle.byte_code.specs.Table.{shape_of}
 use Rattle.byte_lower.specs.Layout.{room_of, HasPins}
-use Rattle.byte_lower.specs.Lists.{is_built, paced, number, put, lists_of}
+use Rattle.byte_lower.specs.Lists.{is_built, paced, number, move, lists_of}
 use Rattle.byte_lower.specs.Stands.{Stands, seen}
 use Rattle.byte_lower.specs.declared.layout.Layout.{Layout}
 
@@ -35,12 +35,13 @@ polling p = record { prim = p; boot = 1; turns = 1 }
 -- the start values of the variables from number v on, of which 0 takes no primitive
 abbrev pub start_values : Layout → List ℤ → ℕ → List Paced
 start_values o [] v = []
-start_values o (n ∷ ns) v = if int_eq n (pos 0) then start_values o ns (suc v) else record (put o v (number n)) { boot = 1; turns = 0 } ∷ start_values o ns (suc v)
+start_values o (n ∷ ns) v = if int_eq n (pos 0) then start_values o ns (suc v) else booted (move o v (number n)) ∷ start_values o ns (suc v)
 
 -- the start, the start values, the cycle poll behind label 0, the lists of the operations, and the jump back
 abbrev pub code_of : Layout → IntProgram → List Paced
 code_of o p =
-    booted (Start (ram_need o.plan.sizes)) ∷ (start_values o p.starts 0 ++ polling (Label 0) ∷ polling (CyclePoll 0) ∷ (lists_of o p.ops 0 [] ++ paced (Jump 0) ∷ []))
+    booted (Start (ram_need o.plan.sizes))
+    ∷ (start_values o p.starts 0 ++ polling (Label 0) ∷ polling (CyclePoll 0) ∷ (lists_of o 0 p.ops 0 [] ++ paced (Jump 0) ∷ []))
 
 -- Operations that are lowered, that nest, whose numbers have places and 16 bits; and a start value for each variable that does not start at 0.
 pub record CanPlace (o : Layout) (p : IntProgram) : Type 0 where
@@ -62,7 +63,8 @@ pub record IsFresh (o : Layout) (s : Bytes) : Type 0 where
   pub cells : length s.store.cells ≡ DATA_ADDRESSES
   pub latches : s.store.latches ≡ 0 ∷ 0 ∷ 0 ∷ 0 ∷ 0 ∷ []
 
--- a program's store in front of its first cycle, with any EEPROM, but that its wires are any: kept bits and outputs are false, and each variable has its start value
+-- A program's store in front of its first cycle, with any EEPROM: kept bits and outputs are false, and each variable has its start value. Wires are
+-- any.
 pub record IsStart (o : Layout) (p : IntProgram) (eeprom : ℕ → ℕ) (t : Store) : Type 0 where
   pub bits : (k : ℕ) → k < o.plan.sizes.kept_bits → t.bit k ≡ false
   pub outputs : (k : ℕ) → k < length o.outputs → t.output k ≡ false
@@ -84,4 +86,5 @@ pub record RunsAs (o : Layout) (p : IntProgram) (code : List Paced) (t : Store) 
 
 -- From any cells there is a store of the program's start, as whose cycles every run does, on every list of readings and answers.
 pub record Carries (o : Layout) (p : IntProgram) (code : List Paced) : Type 0 where
-  pub each : (s : Bytes) → IsFresh o s → (t : Store) × IsStart o p (slice_index s.store.eeprom) t × ((readings : List PinReading) (answers : List Bool) → RunsAs o p code t s readings answers)
+  pub each : (s : Bytes) → IsFresh o s → (t : Store) × IsStart o p (slice_index s.store.eeprom) t
+      × ((readings : List PinReading) (answers : List Bool) → RunsAs o p code t s readings answers)

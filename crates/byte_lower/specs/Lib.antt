@@ -2,5 +2,8 @@
 pub mod Layout
 pub mod Stands
 pub mod Code
+pub mod Samples
 -- the list of each operation
 pub mod Lists
+-- what the code's own steps ask of each other
+pub mod Emitted

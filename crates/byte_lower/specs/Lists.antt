@@ -1,5 +1,5 @@
 -- The list of primitives of each operation.
-use Rattle.std.specs.Prelude.{ℕ, suc, ◌+◌, ◌*◌, Bool, true, false, List, [], ◌∷◌, ◌++◌, ℤ, pos, ◌+ℤ◌, neg_ℤ, int_lt, if◌then◌else◌}
+use Rattle.std.specs.Prelude.{ℕ, zero, suc, Bool, true, false, List, [], ◌∷◌, ◌++◌, ℤ, pos, ◌+ℤ◌, neg_ℤ, int_lt, if◌then◌else◌, Option, Some, None}
 use Rattle.std.specs.Ordering.{int_eq}
 use Rattle.ladder_meaning.specs.Device.{low_byte, high_byte}
 use Rattle.ladder_meaning.specs.Numbers.{computed}
@@ -26,6 +26,7 @@ use Rattle.byte_code.specs.declared.prim.WordSource.{WordSource}
 use Rattle.byte_code.specs.declared.prim.WordSource.TheVariants as word
 use Rattle.byte_code.specs.declared.prim.Paced.{Paced}
 use Rattle.byte_lower.specs.Layout.{word_cell, dest_of, source_of}
+use Rattle.byte_lower.specs.declared.guard.Guard.{Guard}
 use Rattle.byte_lower.specs.declared.layout.Layout.{Layout}
 
 -- The operations that are lowered: all but products, quotients, look-ups and what is done to devices.
@@ -74,8 +75,11 @@ number n = word.Number (low_byte n) (high_byte n)
 abbrev pub word_in : Layout → ℕ → WordSource
 word_in o v = word.Cells (word_cell o v)
 
+abbrev pub move : Layout → ℕ → WordSource → BytePrim
+move o v from = Word (words.Move (word_cell o v) from)
+
 abbrev pub put : Layout → ℕ → WordSource → Paced
-put o v from = paced (Word (words.Move (word_cell o v) from))
+put o v from = paced (move o v from)
 
 abbrev pub jump_where : FlagKind → Bool → ℕ → Paced
 jump_where what is l = paced (JumpWhere (test.Flag what is) l)
@@ -135,8 +139,8 @@ count_up o v = paced (Word (words.Increment (word_cell o v)))
 abbrev pub count_down : Layout → ℕ → Paced
 count_down o v = paced (Word (words.Decrement (word_cell o v)))
 
--- The list of an operation that has the label l, where `top` is the label of the innermost open if. An if jumps to its label where its first branch does not run;
--- its els jumps over the second branch to a label of its own, and stands at the if's; its fi stands at the last.
+-- The list of an operation that has the label l, where `top` is the label of the innermost open if. An if jumps to its label where its
+-- first branch does not run; its els jumps over the second branch to a label of its own, and stands at the if's; its fi stands at the last.
 abbrev pub list_of : Layout → IntOp → ℕ → ℕ → List Paced
 list_of o (Set b) l top = put_bit o b true ∷ []
 list_of o (Clr b) l top = put_bit o b false ∷ []
@@ -181,7 +185,31 @@ labels_behind Closes k [] = []
 labels_behind Closes k (l ∷ labels) = labels
 labels_behind Plain k labels = labels
 
--- the lists of operations from number k on, inside ifs with these labels, the innermost first
-abbrev pub lists_of : Layout → List IntOp → ℕ → List ℕ → List Paced
-lists_of o [] k labels = []
-lists_of o (op ∷ ops) k labels = list_of o op (label_of k) (top_of labels) ++ lists_of o ops (suc k) (labels_behind (shape_of op) k labels)
+-- an if on a bit whose block is one set or clr
+abbrev pub guard_by : IntOp → IntOp → IntOp → Option Guard
+guard_by (Ifs s) (Set b) Fi = Some (record { from = s; is = true; to = b; value = true })
+guard_by (Ifs s) (Clr b) Fi = Some (record { from = s; is = true; to = b; value = false })
+guard_by (Ifc s) (Set b) Fi = Some (record { from = s; is = false; to = b; value = true })
+guard_by (Ifc s) (Clr b) Fi = Some (record { from = s; is = false; to = b; value = false })
+guard_by x y z = None
+
+-- the one in front of operations
+abbrev pub guard_of : List IntOp → Option Guard
+guard_of (x ∷ y ∷ z ∷ ops) = guard_by x y z
+guard_of ops = None
+
+abbrev pub put_where : Layout → Guard → Paced
+put_where o g = paced (Bit (bits.PutIf (source_of o g.from) g.is (dest_of o g.to) g.value))
+
+abbrev pub joined : Option Guard → (Guard → List Paced) → List Paced → List Paced
+joined (Some g) one list = one g
+joined None one list = list
+
+-- The lists of operations from number k on, inside ifs with these labels, the innermost first; the first so many operations stand in an earlier list.
+-- An if on a bit whose block is one set or clr is one primitive.
+abbrev pub lists_of : Layout → ℕ → List IntOp → ℕ → List ℕ → List Paced
+lists_of o passed [] k labels = []
+lists_of o (suc passed) (op ∷ ops) k labels = lists_of o passed ops (suc k) labels
+lists_of o zero (op ∷ ops) k labels =
+    joined (guard_of (op ∷ ops)) (λ g. put_where o g ∷ lists_of o 2 ops (suc k) labels)
+    (list_of o op (label_of k) (top_of labels) ++ lists_of o zero ops (suc k) (labels_behind (shape_of op) k labels))

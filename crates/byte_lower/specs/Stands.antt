@@ -1,5 +1,5 @@
 -- Bytes that stand for what operations write.
-use Rattle.std.specs.Prelude.{◌≡◌, ℕ, ◌+◌, ◌<◌, false, length, map, ℤ, List, [], slice_index, slice_index_or}
+use Rattle.std.specs.Prelude.{◌≡◌, ℕ, ◌+◌, ◌<◌, length, map, ℤ, [], slice_index}
 use Rattle.chip_tables.specs.Bits.{bit_of}
 use Rattle.chip_tables.specs.declared.outside.PinReading.{PinReading}
 use Rattle.chip_tables.specs.declared.scratch.TheConstants.{WIRES}

@@ -1,9 +1,12 @@
 //! From flat operations to code of the byte machine.
 #![tactic(auto)]
 
+mod guard;
+pub mod laws;
 pub mod layout;
 mod numbers;
 pub mod operation;
+pub mod pins;
 mod places;
 pub mod program;
 mod push;

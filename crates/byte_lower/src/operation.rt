@@ -5,6 +5,7 @@ ghost use Rattle.int_code.specs.WellFormed.{IsDest, IsInRange, IsSource};
 ghost use Rattle.byte_lower.specs.Layout.{room_of};
 ghost use Rattle.byte_lower.specs.Lists as lists;
 
+use crate::guard::Guard;
 use crate::layout::Layout;
 use crate::numbers::{difference, number, put, sum, unless_equal, unless_less, word};
 use crate::push::{paced, push_all};
@@ -54,6 +55,22 @@ fn jump_where(layout: &Layout, s: BitSource, is: bool, label: u32) -> Paced
     let from = layout.source(s);
     let test = Test::Bit { from, is };
     paced(BytePrim::JumpWhere { test, label })
+}
+
+/// A bit takes a value where another is so.
+pub(crate) fn put_where(layout: &Layout, guard: Guard) -> Paced
+    requires from { IsSource (room_of layout.now) guard.from }
+    requires to { IsDest (room_of layout.now) guard.to }
+    ensures { result ≡ lists.put_where layout.now guard }
+{
+    let test = layout.source(guard.from);
+    let to = layout.dest(guard.to);
+    paced(BytePrim::Bit(BitOp::PutIf {
+        test,
+        is: guard.is,
+        to,
+        value: guard.value,
+    }))
 }
 
 fn count_up(layout: &Layout, v: u32) -> Paced

@@ -3,13 +3,15 @@
 ghost use Rattle.std.specs.Prelude.{◌≡◌, ◌≤◌, ◌<◌, ◌^◌, ◌+◌, ◌++◌, [], length, reverse, true, All, IfOk, OnOk};
 ghost use Rattle.int_code.specs.WellFormed.{IsInRange};
 ghost use Rattle.byte_lower.specs.Layout.{room_of};
+ghost use Rattle.byte_lower.specs.Emitted.{Goes};
 ghost use Rattle.byte_lower.specs.Lists.{is_built, labels_behind, lists_of, top_of};
 ghost use Rattle.byte_lower.specs.Code as spec;
 ghost use Rattle.byte_lower.specs.Code.{CanPlace, Carries, code_of, start_values};
 
+use crate::guard::guard_at;
 use crate::layout::Layout;
 use crate::numbers::{number, put};
-use crate::operation::emit;
+use crate::operation::{emit, put_where};
 use crate::push::paced;
 use byte_code::prim::{BytePrim, Paced, Prims};
 use int_code::op::{IntOp, IntProgram, Shape};
@@ -65,7 +67,38 @@ fn follow(labels: &mut Vec<u32>, shape: Shape, k: u32) -> Result<(), AllocError>
     Ok(())
 }
 
+/// Appends the list of operation `k`, or of the if that it begins where that is one primitive. It says how many operations behind it are in the list
+/// too. The labels are those of the open ifs, the innermost last.
+fn emit_next(
+    code: &mut Prims,
+    layout: &Layout,
+    ops: &[IntOp],
+    k: usize,
+    labels: &mut Vec<u32>,
+) -> Result<u32, AllocError>
+    requires some { k < length ops.now }
+    requires built { All (λ op. is_built op ≡ true) ops.now }
+    requires range { All (IsInRange (room_of layout.now)) ops.now }
+    requires few { length ops.now ≤ 1000000 }
+    ensures { IfOk result (λ passed. Goes layout.now ops.now k (reverse labels.old.items) (reverse labels.new.items) passed code.old code.new) }
+{
+    match guard_at(ops, k) {
+        Some(guard) => {
+            code.push(put_where(layout, guard))?;
+            Ok(2)
+        }
+        None => {
+            let op = &ops[k];
+            let top = top_of(labels.as_slice());
+            emit(code, layout, op, k as u32 + 1, top)?;
+            follow(labels, op.shape(), k as u32)?;
+            Ok(0)
+        }
+    }
+}
+
 /// Appends the lists of operations.
+#[tactic(auto, using(crate::proofs::ListLemmas::pass_step))]
 fn emit_all(
     code: &mut Prims,
     alloc: Global,
@@ -75,14 +108,16 @@ fn emit_all(
     requires built { All (λ op. is_built op ≡ true) ops.now }
     requires range { All (IsInRange (room_of layout.now)) ops.now }
     requires few { length ops.now ≤ 1000000 }
-    ensures { OnOk result (code.new ≡ code.old ++ lists_of layout.now ops.now 0 []) }
+    ensures { OnOk result (code.new ≡ code.old ++ lists_of layout.now 0 ops.now 0 []) }
 {
     let mut labels: Vec<u32> = Vec::new(alloc);
+    let mut passed = 0;
     for k in 0..ops.len() {
-        let op = &ops[k];
-        let label = k as u32 + 1;
-        emit(code, layout, op, label, top_of(labels.as_slice()))?;
-        follow(&mut labels, op.shape(), k as u32)?;
+        if passed == 0 {
+            passed = emit_next(code, layout, ops, k, &mut labels)?;
+        } else {
+            passed -= 1;
+        }
     }
     Ok(())
 }
@@ -94,7 +129,7 @@ fn emit_starts(code: &mut Prims, layout: &Layout, starts: &[i16]) -> Result<(), 
 {
     for v in 0..starts.len() {
         if starts[v] != 0 {
-            let Paced { prim, .. } = put(layout, v as u32, number(starts[v]));
+            let prim = put(layout, v as u32, number(starts[v])).prim;
             code.push(booted(prim))?;
         }
     }

@@ -1,0 +1,11 @@
+//! Laws of code, each the contract of a function that does nothing.
+
+ghost use Rattle.byte_lower.specs.Code.{CanPlace, Carries, code_of};
+ghost use Rattle.byte_lower.specs.Samples.{rises, IsAtPortB};
+ghost use Rattle.byte_lower.specs.declared.layout.Layout.{Layout};
+
+/// A program that counts the rises of an input can be placed, and its code does in each cycle what its operations do.
+pub fn rises_are_counted()
+    ensures placed { (o : Layout) → IsAtPortB o → CanPlace o rises }
+    ensures carried { (o : Layout) → IsAtPortB o → Carries o rises (code_of o rises) }
+{}
