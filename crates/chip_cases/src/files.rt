@@ -1,6 +1,6 @@
 //! Cases of Intel HEX files. In their texts a comma stands for a line feed, and a semicolon for a carriage return.
 
-use crate::words::{CaseError, hex_word, target};
+use crate::words::{CaseError, hex_word, hex_words, target};
 use chip_tables::{Target, flash_words};
 use intel_hex::fault::HexError;
 use intel_hex::image::Image;
@@ -65,7 +65,7 @@ fn write(
     let Some(room) = flash_words(chip) else {
         return Err(CaseError::NoCase);
     };
-    let words = words_of(alloc, digits)?;
+    let words = hex_words(alloc, digits)?;
     if words.len() > room as usize {
         return Err(CaseError::NoCase);
     }
@@ -76,14 +76,6 @@ fn write(
     };
     let text = write_hex(alloc, &image)?;
     in_a_line(alloc, text.as_slice())
-}
-
-fn words_of(alloc: Global, digits: &[&str]) -> Result<List<u16>, CaseError> {
-    let mut words = List::new(alloc);
-    for word in digits {
-        words.push(hex_word(word)?)?;
-    }
-    Ok(words)
 }
 
 fn in_a_line(alloc: Global, text: &[u8]) -> Result<String, CaseError> {

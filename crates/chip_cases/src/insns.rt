@@ -1,6 +1,6 @@
 //! Cases of instructions, with all numbers in hexadecimal digits.
 
-use crate::words::{CaseError, hex_word, shown};
+use crate::words::{CaseError, hex_words, shown};
 use avr_mach::{AvrInsn, decode, encode, size_of};
 use insn_rows::{InsnRow, avr_kind, find_row, rows_apart};
 use std::alloc::Global;
@@ -10,38 +10,36 @@ use std::alloc::Global;
 /// no word matches two.
 pub fn answer(alloc: Global, words: &[&str]) -> Result<String, CaseError> {
     match words {
-        ["kind", word] => shown(alloc, &avr_kind(hex_word(word)?)),
-        ["decode", word, next] => decoded(alloc, hex_word(word)?, hex_word(next)?),
-        ["find", word, a, b] => found(alloc, word, &[row(a, b)?]),
-        ["find", word, a, b, c, d, e, f] => found(alloc, word, &three(a, b, c, d, e, f)?),
-        ["apart", a, b, c, d] => apart(alloc, &[row(a, b)?, row(c, d)?]),
-        ["apart", a, b, c, d, e, f] => apart(alloc, &three(a, b, c, d, e, f)?),
+        [what, digits @ ..] => told(alloc, what, hex_words(alloc, digits)?.as_slice()),
+        [] => Err(CaseError::NoCase),
+    }
+}
+
+fn told(alloc: Global, what: &str, numbers: &[u16]) -> Result<String, CaseError> {
+    match (what, numbers) {
+        ("kind", [word]) => shown(alloc, &avr_kind(*word)),
+        ("decode", [word, next]) => decoded(alloc, *word, *next),
+        ("find", [word, a, b]) => shown(alloc, &find_row(&[row(*a, *b)], *word)),
+        ("find", [word, rows @ ..]) => shown(alloc, &find_row(&three(rows)?, *word)),
+        ("apart", [a, b, c, d]) => shown(alloc, &rows_apart(&[row(*a, *b), row(*c, *d)])),
+        ("apart", rows) => shown(alloc, &rows_apart(&three(rows)?)),
         _ => Err(CaseError::NoCase),
     }
 }
 
-fn found<const N: usize>(
-    alloc: Global,
-    word: &str,
-    rows: &[InsnRow; N],
-) -> Result<String, CaseError> {
-    shown(alloc, &find_row(rows, hex_word(word)?))
+fn three(numbers: &[u16]) -> Result<[InsnRow; 3], CaseError> {
+    match numbers {
+        [a, b, c, d, e, f] => Ok([row(*a, *b), row(*c, *d), row(*e, *f)]),
+        _ => Err(CaseError::NoCase),
+    }
 }
 
-fn apart<const N: usize>(alloc: Global, rows: &[InsnRow; N]) -> Result<String, CaseError> {
-    shown(alloc, &rows_apart(rows))
-}
-
-fn three(a: &str, b: &str, c: &str, d: &str, e: &str, f: &str) -> Result<[InsnRow; 3], CaseError> {
-    Ok([row(a, b)?, row(c, d)?, row(e, f)?])
-}
-
-fn row(mask: &str, bits: &str) -> Result<InsnRow, CaseError> {
-    Ok(InsnRow {
-        mask: hex_word(mask)?,
-        bits: hex_word(bits)?,
+fn row(mask: u16, bits: u16) -> InsnRow {
+    InsnRow {
+        mask,
+        bits,
         kind: 0,
-    })
+    }
 }
 
 fn decoded(alloc: Global, word: u16, next: u16) -> Result<String, CaseError> {

@@ -1,6 +1,7 @@
 //! The words of a case.
 
 use chip_tables::Target;
+use ld_base::list::List;
 use std::alloc::{AllocError, Global};
 use std::fmt::Debug;
 
@@ -47,6 +48,15 @@ pub fn short(word: &str) -> Result<u16, CaseError> {
 /// A number of 16 bits in hexadecimal digits.
 pub fn hex_word(word: &str) -> Result<u16, CaseError> {
     u16::from_str_radix(word, 16).map_err(|_| CaseError::NoCase)
+}
+
+/// Numbers of 16 bits in hexadecimal digits.
+pub fn hex_words(alloc: Global, digits: &[&str]) -> Result<List<u16>, CaseError> {
+    let mut words = List::new(alloc);
+    for word in digits {
+        words.push(hex_word(word)?)?;
+    }
+    Ok(words)
 }
 
 /// A byte in hexadecimal digits.
