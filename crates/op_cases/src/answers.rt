@@ -41,56 +41,48 @@ impl Programs {
     }
 
     /// What an interpretable text is asked for.
-    fn asked_of_text(
-        &self,
-        alloc: Global,
-        command: &Command<'_>,
-    ) -> Result<Option<String>, AllocError> {
+    fn asked_of_text(&self, alloc: Global, command: &Command<'_>) -> Result<String, AllocError> {
         let text = self.whole(alloc, command.text.as_slice())?;
-        let text = text.as_slice();
-        Ok(Some(match command.word {
-            "read" => verdict(alloc, text)?,
-            "sizes" => sizes(alloc, text)?,
-            "write" => written(alloc, text)?,
-            _ => return Ok(None),
-        }))
+        match command.word {
+            "read" => verdict(alloc, text.as_slice()),
+            "sizes" => sizes(alloc, text.as_slice()),
+            _ => written(alloc, text.as_slice()),
+        }
     }
 
     /// What a trace is asked for.
-    fn asked_of_trace(
-        &self,
-        alloc: Global,
-        command: &Command<'_>,
-    ) -> Result<Option<String>, AllocError> {
+    fn asked_of_trace(&self, alloc: Global, command: &Command<'_>) -> Result<String, AllocError> {
         let program = self.program.as_slice();
         let trace = command.text.as_slice();
-        Ok(Some(match command.word {
-            "steps" => steps(alloc, program, trace)?,
-            "eeprom" => saved(alloc, program, trace)?,
-            "cycles" => cycles(alloc, program, trace)?,
-            "lines" => lines(alloc, program, trace, self.duty, self.failing)?,
-            _ => return Ok(None),
-        }))
+        match command.word {
+            "steps" => steps(alloc, program, trace),
+            "eeprom" => saved(alloc, program, trace),
+            "cycles" => cycles(alloc, program, trace),
+            _ => lines(alloc, program, trace, self.duty, self.failing),
+        }
     }
 
     /// What numbers are asked for.
-    fn asked_of_numbers(
-        &self,
-        alloc: Global,
-        command: &Command<'_>,
-    ) -> Result<Option<String>, AllocError> {
+    fn asked_of_numbers(&self, alloc: Global, command: &Command<'_>) -> Result<String, AllocError> {
         let argument = command.argument;
-        Ok(Some(match command.word {
-            "formed" => formed(alloc, self.front.as_slice(), argument)?,
-            "nests" => nests(alloc, argument)?,
-            "table" => table(alloc, argument)?,
-            "wrap" => wrapped(alloc, argument)?,
-            "fit" => fit(alloc, argument)?,
-            "cell" => cell(alloc, argument)?,
-            "bit" => flag(alloc, argument)?,
-            _ => return Ok(None),
-        }))
+        match command.word {
+            "formed" => formed(alloc, self.front.as_slice(), argument),
+            "nests" => nests(alloc, argument),
+            "table" => table(alloc, argument),
+            "wrap" => wrapped(alloc, argument),
+            "fit" => fit(alloc, argument),
+            "cell" => cell(alloc, argument),
+            "bit" => flag(alloc, argument),
+            _ => String::from_str(alloc, "no such command"),
+        }
     }
+}
+
+/// Keeps a text in the stead of another.
+fn keep(kept: &mut Vec<u8>, text: &[u8]) -> Result<(), AllocError> {
+    kept.clear();
+    kept.extend_from_slice(text)?;
+    Ok(())
 }
 
 /// How a duty is shown by a word: not, as it is, or on a chip whose duty register has a value at 100 percent.
@@ -107,25 +99,23 @@ fn duty_of(word: &str) -> DutyShown {
 impl Answers for Programs {
     fn answer(&mut self, alloc: Global, command: &Command<'_>) -> Result<String, AllocError> {
         let text = command.text.as_slice();
-        match command.word {
-            "front" => self.front = Vec::from_slice(alloc, text)?,
-            "back" => self.back = Vec::from_slice(alloc, text)?,
-            "program" => self.program = Vec::from_slice(alloc, text)?,
-            "failing" => self.failing = command.argument.parse::<u64>().unwrap_or(0),
-            "duty" => self.duty = duty_of(command.argument),
-            _ => {
-                if let Some(answer) = self.asked_of_text(alloc, command)? {
-                    return Ok(answer);
-                }
-                if let Some(answer) = self.asked_of_trace(alloc, command)? {
-                    return Ok(answer);
-                }
-                if let Some(answer) = self.asked_of_numbers(alloc, command)? {
-                    return Ok(answer);
-                }
-                return String::from_str(alloc, "no such command");
+        let kept = match command.word {
+            "front" => keep(&mut self.front, text),
+            "back" => keep(&mut self.back, text),
+            "program" => keep(&mut self.program, text),
+            "failing" => {
+                self.failing = command.argument.parse::<u64>().unwrap_or(0);
+                Ok(())
             }
-        }
+            "duty" => {
+                self.duty = duty_of(command.argument);
+                Ok(())
+            }
+            "read" | "sizes" | "write" => return self.asked_of_text(alloc, command),
+            "steps" | "eeprom" | "cycles" | "lines" => return self.asked_of_trace(alloc, command),
+            _ => return self.asked_of_numbers(alloc, command),
+        };
+        kept?;
         Ok(String::new(alloc))
     }
 }

@@ -28,8 +28,9 @@ fn program(
     })
 }
 
-fn told(alloc: Global, p: &IntProgram) -> Result<String, AllocError> {
-    let word = if well_formed(p) {
+/// Whether such a program is well formed.
+fn told(alloc: Global, ops: Ops, variables: u32, kept_bits: u32) -> Result<String, AllocError> {
+    let word = if well_formed(&program(alloc, ops, variables, kept_bits)?) {
         "well formed"
     } else {
         "not well formed"
@@ -43,14 +44,29 @@ pub fn formed(alloc: Global, front: &[u8], argument: &str) -> Result<String, All
     let (kept_bits, line) = rest.split_once(' ').unwrap_or((rest, ""));
     let variables = variables.parse::<u32>().unwrap_or(0);
     let kept_bits = kept_bits.parse::<u32>().unwrap_or(0);
+    let text = ended(alloc, front, line)?;
+    match read_interp(alloc, text.as_slice()) {
+        Ok(said) => resized(alloc, said.program, variables, kept_bits),
+        Err(e) => refusal(alloc, e),
+    }
+}
+
+/// Whether the operations of a program are well formed over these numbers.
+fn resized(
+    alloc: Global,
+    p: IntProgram,
+    variables: u32,
+    kept_bits: u32,
+) -> Result<String, AllocError> {
+    told(alloc, p.ops, variables, kept_bits)
+}
+
+/// A text that ends with the line.
+fn ended(alloc: Global, front: &[u8], line: &str) -> Result<Vec<u8>, AllocError> {
     let mut text = Vec::from_slice(alloc, front)?;
     text.extend_from_slice(line.as_bytes())?;
     text.extend_from_slice(b"\nend\n")?;
-    let said = match read_interp(alloc, text.as_slice()) {
-        Ok(said) => said.program,
-        Err(e) => return refusal(alloc, e),
-    };
-    told(alloc, &program(alloc, said.ops, variables, kept_bits)?)
+    Ok(text)
 }
 
 /// Whether ifs nest: an if for each `i`, an `Els` for each `e`, a `Fi` for each `f`, and a plain operation for any other letter.
@@ -64,7 +80,7 @@ pub fn nests(alloc: Global, letters: &str) -> Result<String, AllocError> {
             _ => IntOp::Inc { v: 0 },
         })?;
     }
-    told(alloc, &program(alloc, ops, 2, 3)?)
+    told(alloc, ops, 2, 3)
 }
 
 /// Whether a table of so many values is well formed.
@@ -74,7 +90,7 @@ pub fn table(alloc: Global, argument: &str) -> Result<String, AllocError> {
     let w = NumSource::N(2);
     let mut ops = List::new(alloc);
     ops.push(IntOp::Tab { v: 1, w, values })?;
-    told(alloc, &program(alloc, ops, 2, 3)?)
+    told(alloc, ops, 2, 3)
 }
 
 /// A number wrapped to 16 bits.

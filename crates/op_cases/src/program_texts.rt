@@ -1,5 +1,7 @@
 //! Cases of interpretable texts.
 
+ghost use Rattle.interp_code.specs.Program.{IsWritable};
+
 use case_script::push_lines;
 use interp_code::program::InterpProgram;
 use interp_code::read::{InterpError, read_interp};
@@ -24,10 +26,15 @@ pub fn verdict(alloc: Global, text: &[u8]) -> Result<String, AllocError> {
 
 /// The text of the program that a text says.
 pub fn written(alloc: Global, text: &[u8]) -> Result<String, AllocError> {
-    let said = match read_interp(alloc, text) {
-        Ok(said) => said,
-        Err(e) => return refusal(alloc, e),
-    };
+    match read_interp(alloc, text) {
+        Ok(said) => text_of(alloc, &said),
+        Err(e) => refusal(alloc, e),
+    }
+}
+
+fn text_of(alloc: Global, said: &InterpProgram) -> Result<String, AllocError>
+    requires { IsWritable said.now.cycle said.now.names said.now.program }
+{
     let text = write_interp(alloc, said.cycle, &said.names, &said.program)?;
     let mut shown = String::new(alloc);
     push_lines(&mut shown, text.as_slice())?;

@@ -1,6 +1,9 @@
 //! Cases of programs that run over traces.
 
-ghost use Rattle.std.specs.Prelude.{◌≡◌, true};
+ghost use Rattle.std.specs.Prelude.{◌≡◌, true, length};
+ghost use Rattle.interp_code.specs.Machine.{IsRunnable};
+ghost use Rattle.ladder_trace.specs.Line.{eeprom_size};
+ghost use Rattle.ladder_trace.specs.Trace.{IsTraceOf};
 ghost use Rattle.trace_run.specs.Run.{IsProgramOf};
 
 use crate::program_texts::refusal;
@@ -10,11 +13,12 @@ use int_code::op::IntProgram;
 use int_code::well_formed::well_formed;
 use int_sim::Sim;
 use interp_code::machine::Interp;
+use interp_code::program::InterpProgram;
 use interp_code::read::read_interp;
 use ladder_meaning::reading::{Reading, View};
 use ladder_trace::duty::DutyShown;
 use ladder_trace::shown::shown_line;
-use ladder_trace::trace::{Trace, read_trace};
+use ladder_trace::trace::{Step, Trace, read_trace};
 use ladder_tree::names::Names;
 use ld_base::files::FileFault;
 use ld_base::mem_out::MemOut;
@@ -23,24 +27,47 @@ use trace_run::{eeprom, run_sim};
 
 /// The lines that the machine of a program's text shows over a trace, each behind the number of operations that its cycle executed.
 pub fn cycles(alloc: Global, program: &[u8], trace: &[u8]) -> Result<String, AllocError> {
-    let said = match read_interp(alloc, program) {
-        Ok(said) => said,
-        Err(e) => return refusal(alloc, e),
-    };
-    let trace = match read_trace(alloc, &said.names, trace) {
-        Ok(trace) => trace,
-        Err(e) => return trace_refusal(alloc, e),
-    };
-    let mut machine = Interp::new(alloc, said, &eeprom(&trace))?;
+    match read_interp(alloc, program) {
+        Ok(said) => cycles_of(alloc, said, trace),
+        Err(e) => refusal(alloc, e),
+    }
+}
+
+fn cycles_of(alloc: Global, said: InterpProgram, trace: &[u8]) -> Result<String, AllocError>
+    requires { IsRunnable said }
+{
+    match read_trace(alloc, &said.names, trace) {
+        Ok(trace) => machine_cycles(alloc, said, &trace),
+        Err(e) => trace_refusal(alloc, e),
+    }
+}
+
+fn machine_cycles(alloc: Global, said: InterpProgram, trace: &Trace) -> Result<String, AllocError>
+    requires program { IsRunnable said }
+    requires trace { length trace.now.eeprom ≡ eeprom_size }
+{
+    let mut machine = Interp::new(alloc, said, &eeprom(trace))?;
     let mut shown = String::new(alloc);
     let mut number = 0u32;
     for step in trace.steps.as_slice() {
-        for _ in 0..step.times {
-            number = number.saturating_add(1);
-            push_cycle(alloc, &mut shown, &mut machine, number, &step.reading)?;
-        }
+        push_cycles(alloc, &mut shown, &mut machine, &mut number, step)?;
     }
     Ok(shown)
+}
+
+/// Runs the cycles of a step, and appends what they show.
+fn push_cycles(
+    alloc: Global,
+    shown: &mut String,
+    machine: &mut Interp,
+    number: &mut u32,
+    step: &Step,
+) -> Result<(), AllocError> {
+    for _ in 0..step.times {
+        *number = number.saturating_add(1);
+        push_cycle(alloc, shown, machine, *number, &step.reading)?;
+    }
+    Ok(())
 }
 
 /// Runs a cycle, and appends what it shows.
@@ -104,29 +131,57 @@ pub fn lines(
     duty: DutyShown,
     failing: u64,
 ) -> Result<String, AllocError> {
-    let said = match read_interp(alloc, program) {
-        Ok(said) => said,
-        Err(e) => return refusal(alloc, e),
-    };
-    let names = said.names;
-    let program = said.program;
-    let trace = match read_trace(alloc, &names, trace) {
-        Ok(trace) => trace,
-        Err(e) => return trace_refusal(alloc, e),
-    };
-    if !is_program(&names, &program) {
-        return String::from_str(alloc, "a program of other sizes");
-    }
     let mut out = MemOut::new(alloc);
     out.fail_at(failing)?;
-    let sim = Sim::new(alloc, program, &eeprom(&trace))?;
-    let end = run_sim(alloc, &mut out, &names, duty, sim, &trace);
+    match read_interp(alloc, program) {
+        Ok(said) => {
+            let names = said.names;
+            let program = said.program;
+            lines_of(alloc, &mut out, &names, program, trace, duty)
+        }
+        Err(e) => refusal(alloc, e),
+    }
+}
+
+fn lines_of(
+    alloc: Global,
+    out: &mut MemOut,
+    names: &Names,
+    program: IntProgram,
+    trace: &[u8],
+    duty: DutyShown,
+) -> Result<String, AllocError> {
+    match read_trace(alloc, names, trace) {
+        Ok(trace) => written_lines(alloc, out, names, program, &trace, duty),
+        Err(e) => trace_refusal(alloc, e),
+    }
+}
+
+fn written_lines(
+    alloc: Global,
+    out: &mut MemOut,
+    names: &Names,
+    program: IntProgram,
+    trace: &Trace,
+    duty: DutyShown,
+) -> Result<String, AllocError>
+    requires { IsTraceOf names.now trace.now }
+{
+    if !is_program(names, &program) {
+        return String::from_str(alloc, "a program of other sizes");
+    }
+    let sim = Sim::new(alloc, program, &eeprom(trace))?;
+    match run_sim(alloc, out, names, duty, sim, trace) {
+        Ok(()) => said_of(alloc, out, "all is written\n"),
+        Err(FileFault::Failed) => said_of(alloc, out, "a write failed\n"),
+        Err(FileFault::Memory(e)) => Err(e),
+    }
+}
+
+/// What an output holds, and how the run ended.
+fn said_of(alloc: Global, out: &MemOut, end: &str) -> Result<String, AllocError> {
     let mut shown = String::new(alloc);
     push_lines(&mut shown, out.bytes())?;
-    match end {
-        Ok(()) => shown.push_str("all is written\n")?,
-        Err(FileFault::Failed) => shown.push_str("a write failed\n")?,
-        Err(FileFault::Memory(e)) => return Err(e),
-    }
+    shown.push_str(end)?;
     Ok(shown)
 }

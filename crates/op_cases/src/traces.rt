@@ -31,10 +31,13 @@ fn trace_of(
 
 /// The steps of a trace in words.
 pub fn steps(alloc: Global, program: &[u8], trace: &[u8]) -> Result<String, AllocError> {
-    let trace = match trace_of(alloc, program, trace)? {
-        Ok(trace) => trace,
-        Err(refused) => return Ok(refused),
-    };
+    match trace_of(alloc, program, trace)? {
+        Ok(trace) => steps_of(alloc, &trace),
+        Err(refused) => Ok(refused),
+    }
+}
+
+fn steps_of(alloc: Global, trace: &Trace) -> Result<String, AllocError> {
     let mut text = format!(in alloc; "{} steps", trace.steps.len())?;
     for step in trace.steps.as_slice() {
         push_step(&mut text, step)?;
@@ -76,11 +79,13 @@ fn given_count(bytes: &[u8]) -> usize {
 
 /// The bytes of the EEPROM that a trace begins with, up to the last that is not erased.
 pub fn saved(alloc: Global, program: &[u8], trace: &[u8]) -> Result<String, AllocError> {
-    let trace = match trace_of(alloc, program, trace)? {
-        Ok(trace) => trace,
-        Err(refused) => return Ok(refused),
-    };
-    let bytes = trace.eeprom.as_slice();
+    match trace_of(alloc, program, trace)? {
+        Ok(trace) => bytes_of(alloc, trace.eeprom.as_slice()),
+        Err(refused) => Ok(refused),
+    }
+}
+
+fn bytes_of(alloc: Global, bytes: &[u8]) -> Result<String, AllocError> {
     let mut text = format!(in alloc; "{} bytes:", bytes.len())?;
     for byte in bytes.iter().take(given_count(bytes)) {
         write!(text, " {byte:02x}")?;
