@@ -13,3 +13,4 @@ pub mod CycleLemmas
 pub mod ListLemmas
 pub mod PinLemmas
 pub mod SampleLemmas
+pub mod AdmitLemmas

@@ -72,7 +72,7 @@ found_byte Interp c i h = absurd (cc)
 found_byte AnsiC c i h = absurd (cc)
 
 -- the compiler's cells for wires
-abbrev IsWireCell : Target → ℕ → Type 0
+abbrev pub IsWireCell : Target → ℕ → Type 0
 IsWireCell F628 a = (0x70 ≤ a) × (a < 0x76)
 IsWireCell F877 a = (0x70 ≤ a) × (a < 0x76)
 IsWireCell Mega16 a = a < 0x20
@@ -80,7 +80,7 @@ IsWireCell Interp a = ⊥
 IsWireCell AnsiC a = ⊥
 
 -- an address of a chip's list
-record IsListed (target : Target) (a : ℕ) : Type 0 where
+pub record IsListed (target : Target) (a : ℕ) : Type 0 where
   low : a < 1119
   off : IsWireCell target a → ⊥
 
@@ -99,7 +99,7 @@ listed Mega16 a (inr h) = absurd h
 listed Interp a h = absurd h
 listed AnsiC a h = absurd h
 
-record RamByte (target : Target) (i : ℕ) : Type 0 where
+pub record RamByte (target : Target) (i : ℕ) : Type 0 where
   address : ℕ
   is : ram_address target i ≡ Some address
   listed : IsListed target address
@@ -109,9 +109,9 @@ ram_byte target c i h =
     let b = found_byte target c i h in
     record { address = b.address; is = b.is; listed = listed target b.address b.within }
 
-record WirePlace (target : Target) (w : ℕ) : Type 0 where
-  place : CellBit
-  is : wire_of target w ≡ Some place
+pub record WirePlace (target : Target) (w : ℕ) : Type 0 where
+  pub place : CellBit
+  pub is : wire_of target w ≡ Some place
   cell : IsWireCell target place.address
   bit : place.bit < 8
   low : place.address < 1120
@@ -119,16 +119,16 @@ record WirePlace (target : Target) (w : ℕ) : Type 0 where
 pic_place : (w : ℕ) → w < 48 → (0x70 ≤ (pic_wire w).address) × ((pic_wire w).address < 0x76)
 pic_place w h = (omega arith, omega (arith, h))
 
-wire_found : (w : ℕ) (p : CellBit) → w < 48 → (if nat_lt w WIRES then Some p else None) ≡ Some p
+pub wire_found : (w : ℕ) (p : CellBit) → w < 48 → (if nat_lt w WIRES then Some p else None) ≡ Some p
 wire_found w p h = let e : nat_lt w WIRES ≡ true = grind (arith, nat_tests, h) in ap (λ b. if b then Some p else None) e
 
 -- a wire of the ATmega16 by its number
-data AvrWire (w : ℕ) : Type 0 where
+pub data AvrWire (w : ℕ) : Type 0 where
   power : w ≡ 0 → avr_wire w ≡ at_bit 20 0 → AvrWire w
   alone : 1 ≤ w → w < 9 → avr_wire w ≡ at_bit (w + 1) 0 → AvrWire w
   shared : 9 ≤ w → avr_wire w ≡ at_bit (10 + (w - 9) / 8) ((w - 9) % 8) → AvrWire w
 
-avr_view : (w : ℕ) → AvrWire w
+pub avr_view : (w : ℕ) → AvrWire w
 avr_view w = by (w == 0) refl (nat_lt w 9) refl
   where
     by : (b : Bool) → (w == 0) ≡ b → (c : Bool) → nat_lt w 9 ≡ c → AvrWire w
@@ -185,11 +185,11 @@ wires_apart AnsiC w x p q h k e f a b = absurd (cc)
 
 module _ (o : Layout) (c : IsChip o.plan.target) (room : ram_need o.plan.sizes ≤ ram_size o.plan.target) where
   -- a bit is a kept one in a byte of the list, or a wire
-  data BitView (k : ℕ) : Type 0 where
+  pub data BitView (k : ℕ) : Type 0 where
     kept : k < o.plan.sizes.kept_bits → (b : RamByte o.plan.target (2 * o.plan.sizes.variables + k / 8)) → bit_cell o k ≡ at_bit b.address (k % 8) → BitView k
     wired : o.plan.sizes.kept_bits ≤ k → (w : WirePlace o.plan.target (k - o.plan.sizes.kept_bits)) → bit_cell o k ≡ w.place → BitView k
 
-  bit_view : (k : ℕ) → k < o.plan.sizes.kept_bits + WIRES → BitView k
+  pub bit_view : (k : ℕ) → k < o.plan.sizes.kept_bits + WIRES → BitView k
   bit_view k h = by (nat_lt k o.plan.sizes.kept_bits) refl
     where
       by : (b : Bool) → nat_lt k o.plan.sizes.kept_bits ≡ b → BitView k

@@ -139,6 +139,10 @@ count_up o v = paced (Word (words.Increment (word_cell o v)))
 abbrev pub count_down : Layout → ℕ → Paced
 count_down o v = paced (Word (words.Decrement (word_cell o v)))
 
+-- a jump over the second branch to label l, and the label in front of that
+abbrev pub turn : ℕ → ℕ → List Paced
+turn l top = paced (Jump l) ∷ paced (Label top) ∷ []
+
 -- The list of an operation that has the label l, where `top` is the label of the innermost open if. An if jumps to its label where its
 -- first branch does not run; its els jumps over the second branch to a label of its own, and stands at the if's; its fi stands at the last.
 abbrev pub list_of : Layout → IntOp → ℕ → ℕ → List Paced
@@ -150,7 +154,7 @@ list_of o (Ifs s) l top = jump_where_bit o s false l ∷ []
 list_of o (Ifc s) l top = jump_where_bit o s true l ∷ []
 list_of o (Iflt w u) l top = unless_less o w u l
 list_of o (Ifeq w u) l top = unless_equal o w u l
-list_of o Els l top = paced (Jump l) ∷ paced (Label top) ∷ []
+list_of o Els l top = turn l top
 list_of o Fi l top = paced (Label top) ∷ []
 list_of o (Lit v n) l top = put o v (number n) ∷ []
 list_of o (Mov v from) l top = put o v (word_in o from) ∷ []

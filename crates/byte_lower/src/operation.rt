@@ -89,6 +89,15 @@ fn count_down(layout: &Layout, v: u32) -> Paced
     paced(BytePrim::Word(WordOp::Decrement { to }))
 }
 
+/// A jump over the second branch to the label, and the label in front of that.
+fn turn(into: &mut Prims, label: u32, top: u32) -> Result<(), AllocError>
+    ensures { OnOk result (into.new ≡ into.old ++ lists.turn label top) }
+{
+    let jump = BytePrim::Jump { label };
+    let second = BytePrim::Label { label: top };
+    push_all(into, [paced(jump), paced(second)])
+}
+
 /// Appends the list of an operation. `label` is its own, and `top` that of the innermost open if.
 pub(crate) fn emit(
     into: &mut Prims,
@@ -110,13 +119,7 @@ pub(crate) fn emit(
         IntOp::Ifc { s } => jump_where(layout, *s, true, label),
         IntOp::Iflt { w, u } => return unless_less(into, layout, *w, *u, label),
         IntOp::Ifeq { w, u } => return unless_equal(into, layout, *w, *u, label),
-        IntOp::Els => return push_all(
-            into,
-            [
-                paced(BytePrim::Jump { label }),
-                paced(BytePrim::Label { label: top }),
-            ],
-        ),
+        IntOp::Els => return turn(into, label, top),
         IntOp::Fi => paced(BytePrim::Label { label: top }),
         IntOp::Lit { v, n } => put(layout, *v, number(*n)),
         IntOp::Mov { v, from } => put(layout, *v, word(layout, *from)),

@@ -1,4 +1,9 @@
-use Rattle.std.proofs.Common.{sym, subst}
+use Rattle.std.proofs.Common.{◌≡◌, List, true, sym, subst}
+use Rattle.std.specs.List.{list_all}
+use Rattle.byte_code.specs.Admitted.{admits}
+use Rattle.byte_code.specs.declared.prim.Paced.{Paced}
+use Rattle.byte_lower.proofs.AdmitLemmas.{admitted}
+use Rattle.byte_lower.specs.Outfit.{outfit_of}
 use Rattle.byte_lower.proofs.CycleLemmas.{carries}
 use Rattle.byte_lower.specs.Code.{Carries}
 use Rattle.byte_lower.proofs.program.lower_bytes.Goals as goal
@@ -6,3 +11,8 @@ use Rattle.byte_lower.proofs.program.lower_bytes.Goals as goal
 pub returns-in-Ok-clause-runs : goal.returns-in-Ok-clause-runs
 returns-in-Ok-clause-runs c =
     subst (Carries c.args.layout.now c.args.program.now) (sym c.in-Ok.ensures) (carries c.args.layout.now c.args.program.now c.requires c.args.layout.now.chip c.args.layout.now.plan.ram_fits)
+
+pub returns-in-Ok-clause-admitted : goal.returns-in-Ok-clause-admitted
+returns-in-Ok-clause-admitted c =
+    subst (λ (code : List Paced). list_all (λ p. admits (outfit_of c.args.layout.now) p.prim) code ≡ true) (sym c.in-Ok.ensures)
+    (admitted c.args.layout.now c.args.layout.now.chip c.args.layout.now.plan.ram_fits c.args.program.now c.requires)

@@ -1,0 +1,206 @@
+-- Each primitive of a program's code is one that code for its layout may have.
+use Rattle.std.proofs.Common.{◌≡◌, ℕ, zero, suc, ◌+◌, ◌-◌, ◌/◌, ◌<◌, ◌≤◌, Bool, true, false, List, [], ◌∷◌, ◌++◌, length, Option, Some, None, ℤ, pos, refl, sym, ap, ◌∙◌, arith}
+use Rattle.std.specs.Prelude.{◌&&◌, ◌||◌, ◌==◌, nat_lt, nat_le, if◌then◌else◌, int_lt, All}
+use Rattle.std.specs.List.{list_any, list_all}
+use Rattle.std.specs.Ordering.{int_eq}
+use Rattle.std.proofs.lemmas.Bool.Decides.{nat_tests}
+use Rattle.std.proofs.lemmas.List.Elements.{All-head, All-tail}
+use Rattle.chip_tables.specs.Memory.{ram_size, ram_ranges, holds}
+use Rattle.chip_tables.specs.Scratch.{pic_wire, avr_wire, wire_of}
+use Rattle.chip_tables.specs.declared.scratch.CellBit.{CellBit}
+use Rattle.chip_tables.specs.declared.pins.PortBit.{PortBit}
+use Rattle.chip_tables.specs.declared.target.Target.{Target}
+use Rattle.chip_tables.specs.declared.target.Target.TheVariants.{F628, F877, Mega16, Interp, AnsiC}
+use Rattle.chip_tables.specs.declared.scratch.TheConstants.{WIRES}
+use Rattle.chip_tables.proofs.RamLemmas.{inside}
+use Rattle.mem_plan.specs.Needs.{ram_need}
+use Rattle.mem_plan.specs.Places.{IsChip}
+use Rattle.int_code.specs.Shapes.{shape_of}
+use Rattle.int_code.specs.WellFormed.{IsDest, IsSource, IsNumSource, IsComputed, IsInRange}
+use Rattle.int_code.specs.declared.op.BitDest as written
+use Rattle.int_code.specs.declared.op.BitDest.TheVariants as opdest
+use Rattle.int_code.specs.declared.op.BitSource as read
+use Rattle.int_code.specs.declared.op.BitSource.TheVariants as opsource
+use Rattle.int_code.specs.declared.op.IntOp.{IntOp}
+use Rattle.int_code.specs.declared.op.IntOp.TheVariants.{Set, Clr, Cpy, Not, Ifs, Ifc, Iflt, Ifeq, Els, Fi, Lit, Mov, Add, Sub, Inc, Dec}
+use Rattle.int_code.specs.declared.op.IntProgram.{IntProgram}
+use Rattle.int_code.specs.declared.op.NumSource.{NumSource}
+use Rattle.int_code.specs.declared.op.NumSource.TheVariants.{V, N}
+use Rattle.byte_code.specs.Admitted.{is_scratch, is_cell, is_word, reads_bit, writes_bit, admits}
+use Rattle.byte_code.specs.declared.prim.Paced.{Paced}
+use Rattle.byte_lower.proofs.CodeLemmas.{Every, every_on}
+use Rattle.byte_lower.proofs.ListLemmas.{guard_ranges}
+use Rattle.byte_lower.proofs.PlaceLemmas.{AvrWire, power, alone, shared, avr_view, wire_found, BitView, kept, wired, bit_view, WirePlace, Listed, kept_listed, low_listed, high_listed, places_apart}
+use Rattle.byte_lower.specs.Code.{CanPlace, booted, start_values, code_of}
+use Rattle.byte_lower.specs.Layout.{word_cell, bit_cell, pin_at, dest_of, source_of, room_of}
+use Rattle.byte_lower.specs.Lists.{is_built, label_of, list_of, lists_of, top_of, labels_behind, unless_less, unless_equal, sum, difference, move, number, guard_of, put_where, joined}
+use Rattle.byte_lower.specs.Outfit.{outfit_of}
+use Rattle.byte_lower.specs.declared.guard.Guard.{Guard}
+use Rattle.byte_lower.specs.declared.layout.Layout.{Layout}
+
+or_first : (a b : Bool) → a ≡ true → a || b ≡ true
+or_first true b e = refl
+or_first false b e = absurd (cc)
+
+or_second : (a b : Bool) → b ≡ true → a || b ≡ true
+or_second true b e = refl
+or_second false b e = e
+
+and_both : (a b : Bool) → a ≡ true → b ≡ true → a && b ≡ true
+and_both true b e f = f
+and_both false b e f = absurd (cc)
+
+low_register : (a : ℕ) → 2 ≤ a → a < 16 → is_scratch Mega16 a ≡ true
+low_register a h g =
+    let e : nat_le 2 a ≡ true = grind (arith, nat_tests, h) in
+    let f : nat_lt a 16 ≡ true = grind (arith, nat_tests, g) in
+    or_second (a == 0) _ (or_first (nat_le 2 a && nat_lt a 16) _ (and_both (nat_le 2 a) (nat_lt a 16) e f))
+
+avr_scratch_cell : (w : ℕ) → w < 48 → AvrWire w → is_scratch Mega16 (avr_wire w).address ≡ true
+avr_scratch_cell w h (power e f) = ap (λ p. is_scratch Mega16 p.address) f
+avr_scratch_cell w h (alone e g f) = ap (λ p. is_scratch Mega16 p.address) f ∙ low_register (w + 1) (omega (arith, e)) (omega (arith, g))
+avr_scratch_cell w h (shared e f) = ap (λ p. is_scratch Mega16 p.address) f ∙ low_register (10 + (w - 9) / 8) (omega arith) (omega (arith, e, h))
+
+pic_scratch_cell : (w : ℕ) → w < 48 → nat_le 0x70 (0x70 + w / 8) && nat_lt (0x70 + w / 8) 0x80 ≡ true
+pic_scratch_cell w h =
+    let low : 0x70 ≤ 0x70 + w / 8 = omega arith in
+    let high : 0x70 + w / 8 < 0x80 = omega (arith, h) in
+    let e : nat_le 0x70 (0x70 + w / 8) ≡ true = grind (arith, nat_tests, low) in
+    let f : nat_lt (0x70 + w / 8) 0x80 ≡ true = grind (arith, nat_tests, high) in
+    and_both (nat_le 0x70 (0x70 + w / 8)) (nat_lt (0x70 + w / 8) 0x80) e f
+
+every_all : (f : Paced → Bool) (ps : List Paced) → Every (λ p. f p ≡ true) ps → list_all f ps ≡ true
+every_all f [] h = refl
+every_all f (p ∷ ps) h = and_both (f p) (list_all f ps) h.0 (every_all f ps h.1)
+
+any_at : (f : PortBit → Bool) (pins : List PortBit) (k : ℕ) → k < length pins → f (pin_at pins k) ≡ true → list_any f pins ≡ true
+any_at f [] k h e = absurd (omega (arith, h))
+any_at f (p ∷ pins) zero h e = or_first (f p) (list_any f pins) e
+any_at f (p ∷ pins) (suc k) h e = or_second (f p) (list_any f pins) (any_at f pins k (omega (arith, h)) e)
+
+same_pin : (p : PortBit) → (p.port == p.port) && (p.bit == p.bit) ≡ true
+same_pin p = and_both (p.port == p.port) (p.bit == p.bit) (grind (arith, nat_tests)) (grind (arith, nat_tests))
+
+wired_at : (target : Target) (w : ℕ) (p : CellBit) (x : WirePlace target w) → wire_of target w ≡ Some p → x.place ≡ p
+wired_at target w p x e = let f : Some x.place ≡ Some p = sym x.is ∙ e in cc
+
+is_wire_scratch : (target : Target) → IsChip target → (w : ℕ) → w < 48 → (x : WirePlace target w) → is_scratch target x.place.address ≡ true
+is_wire_scratch F628 c w h x = ap (λ p. is_scratch F628 p.address) (wired_at F628 w (pic_wire w) x (wire_found w (pic_wire w) h)) ∙ pic_scratch_cell w h
+is_wire_scratch F877 c w h x = ap (λ p. is_scratch F877 p.address) (wired_at F877 w (pic_wire w) x (wire_found w (pic_wire w) h)) ∙ pic_scratch_cell w h
+is_wire_scratch Mega16 c w h x = ap (λ p. is_scratch Mega16 p.address) (wired_at Mega16 w (avr_wire w) x (wire_found w (avr_wire w) h)) ∙ avr_scratch_cell w h (avr_view w)
+is_wire_scratch Interp c w h x = absurd (cc)
+is_wire_scratch AnsiC c w h x = absurd (cc)
+
+module _ (o : Layout) (c : IsChip o.plan.target) (room : ram_need o.plan.sizes ≤ ram_size o.plan.target) where
+  abbrev Admits : Paced → Type 0
+  Admits p = admits (outfit_of o) p.prim ≡ true
+
+  listed_cell : (a : ℕ) → Listed o c room a → is_cell (outfit_of o) a ≡ true
+  listed_cell a l = or_second (is_scratch o.plan.target a) (list_any (holds a) (ram_ranges o.plan.target)) (inside o.plan.target l.index (Some a) (sym l.is))
+
+  word : (v : ℕ) → v < o.plan.sizes.variables → is_word (outfit_of o) (word_cell o v) ≡ true
+  word v h = and_both _ _ (listed_cell (word_cell o v) (low_listed o c room v h)) (listed_cell (word_cell o v + 1) (high_listed o c room v h))
+
+  bit : (k : ℕ) → k < o.plan.sizes.kept_bits + WIRES → is_cell (outfit_of o) (bit_cell o k).address && nat_lt (bit_cell o k).bit 8 ≡ true
+  bit k h =
+      let low : nat_lt (bit_cell o k).bit 8 ≡ true = let lt = ((places_apart o c room).bit k h).1 in grind (arith, nat_tests, lt) in
+      and_both _ _ (by (bit_view o c room k h)) low
+    where
+      by : BitView o c room k → is_cell (outfit_of o) (bit_cell o k).address ≡ true
+      by (kept lt b e) = listed_cell (bit_cell o k).address (kept_listed o c room k lt)
+      by (wired past w e) =
+          ap (λ p. is_cell (outfit_of o) p.address) e
+          ∙ or_first (is_scratch o.plan.target w.place.address) _ (is_wire_scratch o.plan.target c (k - o.plan.sizes.kept_bits) (omega (arith, past, h)) w)
+
+  dest : (b : written.BitDest) → IsDest (room_of o) b → writes_bit (outfit_of o) (dest_of o b) ≡ true
+  dest (opdest.B k) h = bit k h
+  dest (opdest.Y k) h = any_at (λ p. p.port == (pin_at o.outputs k).port && p.bit == (pin_at o.outputs k).bit) o.outputs k h (same_pin (pin_at o.outputs k))
+
+  source : (f : read.BitSource) → IsSource (room_of o) f → reads_bit (outfit_of o) (source_of o f) ≡ true
+  source (opsource.B k) h = bit k h
+  source (opsource.X k) h = any_at (λ p. p.port == (pin_at o.inputs k).port && p.bit == (pin_at o.inputs k).bit) o.inputs k h (same_pin (pin_at o.inputs k))
+  source (opsource.Y k) h = any_at (λ p. p.port == (pin_at o.outputs k).port && p.bit == (pin_at o.outputs k).bit) o.outputs k h (same_pin (pin_at o.outputs k))
+
+  two : (u v : ℕ) → u < o.plan.sizes.variables → v < o.plan.sizes.variables → is_word (outfit_of o) (word_cell o u) && is_word (outfit_of o) (word_cell o v) ≡ true
+  two u v h g = and_both _ _ (word u h) (word v g)
+
+  one : (u : ℕ) → u < o.plan.sizes.variables → is_word (outfit_of o) (word_cell o u) && true ≡ true
+  one u h = and_both _ _ (word u h) refl
+
+  either_list : (b : Bool) (ps qs : List Paced) → Every Admits ps → Every Admits qs → Every Admits (if b then ps else qs)
+  either_list true ps qs h g = h
+  either_list false ps qs h g = g
+
+  less : (w u : NumSource) (l : ℕ) → IsNumSource (room_of o) w → IsNumSource (room_of o) u → Every Admits (unless_less o w u l)
+  less (V a) (V b) l h g = (two a b h g, (refl, tt))
+  less (V a) (N m) l h g = (one a h, (refl, tt))
+  less (N n) (V b) l h g = either_list (int_lt n (pos 32767)) _ _ (one b g, (refl, tt)) (refl, tt)
+  less (N n) (N m) l h g = either_list (int_lt n m) _ _ tt (refl, tt)
+
+  equal : (w u : NumSource) (l : ℕ) → IsNumSource (room_of o) w → IsNumSource (room_of o) u → Every Admits (unless_equal o w u l)
+  equal (V a) (V b) l h g = (two a b h g, (refl, tt))
+  equal (V a) (N m) l h g = (one a h, (refl, tt))
+  equal (N n) (V b) l h g = (one b g, (refl, tt))
+  equal (N n) (N m) l h g = either_list (int_eq n m) _ _ tt (refl, tt)
+
+  sums : (v : ℕ) (w u : NumSource) → IsComputed (room_of o) v w u → Every Admits (sum o v w u ∷ [])
+  sums v (V a) (V b) h = (and_both _ _ (word v h.0) (two a b h.1 h.2), tt)
+  sums v (V a) (N m) h = (and_both _ _ (word v h.0) (one a h.1), tt)
+  sums v (N n) (V b) h = (and_both _ _ (word v h.0) (one b h.2), tt)
+  sums v (N n) (N m) h = (one v h.0, tt)
+
+  differences : (v : ℕ) (w u : NumSource) → IsComputed (room_of o) v w u → Every Admits (difference o v w u ∷ [])
+  differences v (V a) (V b) h = (and_both _ _ (word v h.0) (two a b h.1 h.2), tt)
+  differences v (V a) (N m) h = (and_both _ _ (word v h.0) (one a h.1), tt)
+  differences v (N n) (V b) h = (and_both _ _ (word v h.0) (word b h.2), tt)
+  differences v (N n) (N m) h = (one v h.0, tt)
+
+  list : (op : IntOp) (l top : ℕ) → is_built op ≡ true → IsInRange (room_of o) op → Every Admits (list_of o op l top)
+  list (Set b) l top built h = (dest b h, tt)
+  list (Clr b) l top built h = (dest b h, tt)
+  list (Cpy b f) l top built h = (and_both _ _ (dest b h.0) (source f h.1), tt)
+  list (Not b f) l top built h = (and_both _ _ (dest b h.0) (source f h.1), tt)
+  list (Ifs f) l top built h = (source f h, tt)
+  list (Ifc f) l top built h = (source f h, tt)
+  list (Iflt w u) l top built h = less w u l h.0 h.1
+  list (Ifeq w u) l top built h = equal w u l h.0 h.1
+  list Els l top built h = (refl, (refl, tt))
+  list Fi l top built h = (refl, tt)
+  list (Lit v n) l top built h = (one v h, tt)
+  list (Mov v f) l top built h = (two v f h.0 h.1, tt)
+  list (Add v w u) l top built h = sums v w u h
+  list (Sub v w u) l top built h = differences v w u h
+  list (Inc v) l top built h = (word v h, tt)
+  list (Dec v) l top built h = (word v h, tt)
+  list op l top built h = absurd (cc)
+
+  joined_by : (x : Option Guard) (one_list : Guard → List Paced) (other : List Paced) → ((g : Guard) → x ≡ Some g → Every Admits (one_list g)) → Every Admits other → Every Admits (joined x one_list other)
+  joined_by (Some g) one_list other h f = h g refl
+  joined_by None one_list other h f = f
+
+  lists : (passed : ℕ) (ops : List IntOp) (k : ℕ) (labels : List ℕ) → All (λ op. is_built op ≡ true) ops → All (IsInRange (room_of o)) ops → Every Admits (lists_of o passed ops k labels)
+  lists zero [] k labels built range = tt
+  lists (suc passed) [] k labels built range = tt
+  lists (suc passed) (op ∷ ops) k labels built range = lists passed ops (suc k) labels (All-tail (λ x. is_built x ≡ true) op ops built) (All-tail (IsInRange (room_of o)) op ops range)
+  lists zero (op ∷ ops) k labels built range =
+      joined_by (guard_of (op ∷ ops)) (λ g. put_where o g ∷ lists_of o 2 ops (suc k) labels)
+      (list_of o op (label_of k) (top_of labels) ++ lists_of o zero ops (suc k) (labels_behind (shape_of op) k labels))
+      (λ g e. let places = guard_ranges o (op ∷ ops) g e range in
+      (and_both _ _ (source g.from places.0) (dest g.to places.1), lists 2 ops (suc k) labels (All-tail (λ x. is_built x ≡ true) op ops built) (All-tail (IsInRange (room_of o)) op ops range)))
+      (every_on Admits (list_of o op (label_of k) (top_of labels)) (lists_of o zero ops (suc k) (labels_behind (shape_of op) k labels))
+      (list op (label_of k) (top_of labels) (All-head (λ x. is_built x ≡ true) op ops built) (All-head (IsInRange (room_of o)) op ops range))
+      (lists zero ops (suc k) (labels_behind (shape_of op) k labels) (All-tail (λ x. is_built x ≡ true) op ops built) (All-tail (IsInRange (room_of o)) op ops range)))
+
+  starts : (ns : List ℤ) (v : ℕ) → v + length ns ≤ o.plan.sizes.variables → Every Admits (start_values o ns v)
+  starts [] v h = tt
+  starts (n ∷ ns) v h =
+      either_list (int_eq n (pos 0)) (start_values o ns (suc v)) (booted (move o v (number n)) ∷ start_values o ns (suc v)) (starts ns (suc v) (omega (arith, h)))
+      (one v (omega (arith, h)), starts ns (suc v) (omega (arith, h)))
+
+  pub admitted : (p : IntProgram) → CanPlace o p → list_all (λ q. admits (outfit_of o) q.prim) (code_of o p) ≡ true
+  admitted p can =
+      every_all (λ q. admits (outfit_of o) q.prim) (code_of o p) (
+        refl,
+        every_on Admits (start_values o p.starts 0) _ (starts p.starts 0 (omega (arith, can.starts)))
+            (refl, (refl, every_on Admits (lists_of o 0 p.ops 0 []) _ (lists 0 p.ops 0 [] can.built can.range) (refl, tt))),
+      )
