@@ -57,7 +57,7 @@ module _ {M : Type 0} (t : Target M) (code : List Paced) (is_whole : IsWhole t c
     label_has i l p e named =
         let k = is_whole.labels i l p e named in
         let h = table_has t.words_in l 0 [] code (label_place code l) k.stands.0 k.stands.1 k.stands.2 k.once in
-        let low = below_size (label_place code l) (suc (label_place code l), k.before.0, k.before.1, k.before.2, omega arith) in
+        let low = below_size (label_place code l) (k.before.0, k.before.1, k.before.2, k.before.3, omega (arith, k.before.4)) in
         (h.1, h.0, omega (arith, h.0, low))
 
     abbrev labels : List ℕ

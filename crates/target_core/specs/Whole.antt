@@ -9,8 +9,8 @@ use Rattle.byte_code.specs.declared.state.Bytes.{Bytes}
 use Rattle.byte_code.specs.Table.{shape_of}
 use Rattle.byte_code.specs.Machine.{is_name, label_place}
 use Rattle.byte_code.specs.Counts.{KeepsCounts}
-use Rattle.target_core.specs.Law.{Target, label_named, is_start, has_words}
-use Rattle.target_core.specs.Laid.{Laid, LaidHolds}
+use Rattle.target_core.specs.Law.{Target, label_named, is_start}
+use Rattle.target_core.specs.Laid.{IsFollowed, Laid, LaidHolds}
 
 -- the word place of each primitive, and at the end the number of words
 abbrev pub places_from : (BytePrim → ℕ) → ℕ → List Paced → List ℕ
@@ -57,14 +57,14 @@ RunsAs {M} t code words cycles boot =
     (n : ℕ) (c : Moment M) → moment (t.step (words ++ rest)) n (first_moment m readings answers) ≡ Some c →
     LaidHolds (laid t code (words ++ rest)) code s readings answers cycles boot c
 
--- the label stands once, in front of a primitive that has words
+-- the label stands once, and somewhere behind it a primitive that has words
 pub record IsPlaced (code : List Paced) (l : ℕ) : Type 0 where
   pub stands : (q : Paced) × (slice_get code (label_place code l) ≡ Some q) × (is_name (shape_of q.prim) l ≡ true)
   pub once : (k : ℕ) (q : Paced) → slice_get code k ≡ Some q → is_name (shape_of q.prim) l ≡ true → k ≡ label_place code l
-  pub before : (q : Paced) × (slice_get code (suc (label_place code l)) ≡ Some q) × (has_words q.prim ≡ true)
+  pub before : IsFollowed code (suc (label_place code l))
 
 -- What the assembler asks of its code: the start stands first and nowhere else, each primitive is admitted, and each label that is named stands
--- once, in front of a primitive that has words.
+-- once, and behind it a primitive that has words.
 pub record IsWhole {M : Type 0} (t : Target M) (code : List Paced) : Type 0 where
   pub first : (p : Paced) × (slice_get code 0 ≡ Some p) × (is_start p.prim ≡ true)
   pub others : (i : ℕ) (p : Paced) → slice_get code (suc i) ≡ Some p → is_start p.prim ≡ false

@@ -38,7 +38,7 @@ placed l e = subst (IsPlaced copier) e (record {
   stands = (paced (Label 0) 1 1, refl, refl);
   once = all_at (λ k q. is_name (shape_of q.prim) 0 ≡ true → k ≡ 1) copier
       ((λ h. absurd (cc h)), ((λ h. refl), ((λ h. absurd (cc h)), ((λ h. absurd (cc h)), ((λ h. absurd (cc h)), tt)))));
-  before = (paced (CyclePoll 0) 1 1, refl, refl);
+  before = (2, paced (CyclePoll 0) 1 1, refl, refl, omega arith);
 })
 
 -- it is code that can be assembled
