@@ -2,6 +2,7 @@ use Rattle.std.proofs.Common.{◌≡◌, ℕ, true, false, List, sym, ap, ◌∙
 use Rattle.std.proofs.lemmas.Result.{err_from_is_err_and}
 use Rattle.ladder_tree.specs.Names.{names_of}
 use Rattle.ladder_tree.specs.declared.names.Names.{Names}
+use Rattle.ladder_tree.specs.declared.project.Project.{Project}
 use Rattle.ladder_trace.specs.Simulated.{duty_shown}
 use Rattle.trace_run.specs.Run.{run_lines}
 use Rattle.ldmicro_top.specs.HasMachine.{has_machine}
@@ -17,7 +18,8 @@ returns-then-not-has_machine-clause-declined g c =
     let old = F.held c.args.files.now in
     let mid = F.held c.take_project.new.files in
     let p = c.in_ok-legal.legal.project in
-    let none : has_machine p.target ≡ false = rw (c.project.ensures) at (sym c.has_machine.ensures ∙ cc) in
+    let told : c.has_machine.result ≡ false = cc in
+    let none : has_machine p.target ≡ false = sym (ap (λ (q : Project). has_machine q.target) c.project.ensures) ∙ sym c.has_machine.ensures ∙ told in
     let next : List ℕ → Status → Type 0 = λ code. HeldAnswers (TraceAnswers (names_of p.rungs) (RunAnswers p code)) (old c.args.trace.now) in
     declined_behind F.tells (HeldAnswers NoMachineAnswers (mid c.args.file.now)) (Expected (Replay c.args.source.now c.args.file.now c.args.trace.now) old) (F.counts c.args.files.now) (F.counts c.take_project.new.files) (F.counts c.decline_file.new.files) old mid c.decline_file.result
     c.take_project.ensures.only
@@ -31,7 +33,8 @@ returns-in_err-said-clause-declined g c =
     let old = F.held c.args.files.now in
     let mid = F.held c.take_project.new.files in
     let p = c.in_ok-legal.legal.project in
-    let machine : has_machine p.target ≡ true = rw (c.project.ensures) at (sym c.has_machine.ensures ∙ cc) in
+    let told : c.has_machine.result ≡ true = cc in
+    let machine : has_machine p.target ≡ true = sym (ap (λ (q : Project). has_machine q.target) c.project.ensures) ∙ sym c.has_machine.ensures ∙ told in
     let n = c.names.result.now in
     let named : n ≡ names_of p.rungs = c.names.ensures ∙ c.in_ok-legal.ensures.judged.can.names in
     let next : List ℕ → Status → Type 0 = λ code. HeldAnswers (TraceAnswers (names_of p.rungs) (RunAnswers p code)) (old c.args.trace.now) in
@@ -54,7 +57,8 @@ returns-in_err-trace-clause-declined g c =
     let mid = F.held c.take_project.new.files in
     let last = F.held c.take_code.new.files in
     let p = c.in_ok-legal.legal.project in
-    let machine : has_machine p.target ≡ true = rw (c.project.ensures) at (sym c.has_machine.ensures ∙ cc) in
+    let told : c.has_machine.result ≡ true = cc in
+    let machine : has_machine p.target ≡ true = sym (ap (λ (q : Project). has_machine q.target) c.project.ensures) ∙ sym c.has_machine.ensures ∙ told in
     let n = c.names.result.now in
     let named : n ≡ names_of p.rungs = c.names.ensures ∙ c.in_ok-legal.ensures.judged.can.names in
     let m = c.names-2.result.now in
@@ -85,7 +89,8 @@ returns-in-Ok-clause-replayed g c y =
     let mid = F.held c.take_project.new.files in
     let last = F.held c.take_code.new.files in
     let p = c.in_ok-legal.legal.project in
-    let machine : has_machine p.target ≡ true = rw (c.project.ensures) at (sym c.has_machine.ensures ∙ cc) in
+    let told : c.has_machine.result ≡ true = cc in
+    let machine : has_machine p.target ≡ true = sym (ap (λ (q : Project). has_machine q.target) c.project.ensures) ∙ sym c.has_machine.ensures ∙ told in
     let n = c.in_ok-legal.legal.names in
     let named = c.in_ok-legal.ensures.judged.can.names in
     let program = c.in_ok-said.said.program in
