@@ -228,7 +228,7 @@ insn_asks (Sbrc r b) here m = let e = skip_quiet m (not (bit_of (reg m r) b)) in
 insn_asks (Sbrs r b) here m = let e = skip_quiet m (bit_of (reg m r) b) in quiet _ _ e e
 insn_asks (Lds d address) here m =
     lds_cases (nat_lt address IO_FIRST) (nat_lt address SRAM_FIRST) _ _ _ _ _ _ (lds_ask m.devices (register_at (address - IO_FIRST))) refl refl
-        (register_asks m (register_at (address - IO_FIRST))) refl refl
+    (register_asks m (register_at (address - IO_FIRST))) refl refl
 insn_asks (Sts address r) here m = refl
 insn_asks (Ldd d q) here m = let e = data_quiet m ((pointer m 28 + q) % 65536) in quiet _ _ e e
 insn_asks (Std q r) here m = refl

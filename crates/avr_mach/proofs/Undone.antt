@@ -24,7 +24,7 @@ back : (k w next : ℕ) → k < 40 → is_match w (get_or avr_rows k no_row) ≡
     avr_decode w next ≡ option_map (λ kind. insn_of kind w next) (slice_get (map (λ f. f.kind) avr_forms) k)
 back k w next within m =
     ap (λ place. option_map (λ kind. insn_of kind w next) (option_and_then (slice_get (map (λ f. f.kind) avr_forms)) place))
-        (only_match avr_rows w k no_row tested within m)
+    (only_match avr_rows w k no_row tested within m)
 
 -- under a mask of high bits a word shows them
 high : (k a b r : ℕ) → r < 2 ^ k → bit_and a b ≡ a → bit_and (a * 2 ^ k + r) (b * 2 ^ k + 0) ≡ a * 2 ^ k + 0
@@ -97,13 +97,13 @@ displaced_word : (n d q : ℕ) → n < 2 → d < 32 → q < 64 → bit_and n 1 �
     bit_and (0x8008 + n * 512 + (q / 32 * 8192 + q / 8 % 4 * 1024 + d * 16 + q % 8)) 0xd208 ≡ 0x8008 + n * 512
 displaced_word n d q hn hd hq hb =
     let e : 2 * 2 ^ 14 + (q / 32 * 2 ^ 13 + (0 * 2 ^ 12 + (q / 8 % 4 * 2 ^ 10 + (n * 2 ^ 9 + (d * 2 ^ 4 + (1 * 2 ^ 3 + q % 8)))))) ≡ 0x8008 + n * 512 +
-        (q / 32 * 8192 + q / 8 % 4 * 1024 + d * 16 + q % 8) = omega arith in
+    (q / 32 * 8192 + q / 8 % 4 * 1024 + d * 16 + q % 8) = omega arith in
     let f : 2 * 2 ^ 14 + (0 * 2 ^ 12 + (n * 2 ^ 9 + 8)) ≡ 0x8008 + n * 512 = omega arith in
     ap (λ m. bit_and m 0xd208) (sym e)
     ∙ high_low 14 2 3 (q / 32 * 2 ^ 13 + (0 * 2 ^ 12 + (q / 8 % 4 * 2 ^ 10 + (n * 2 ^ 9 + (d * 2 ^ 4 + (1 * 2 ^ 3 + q % 8)))))) 0x1208
-        (0 * 2 ^ 12 + (n * 2 ^ 9 + 8)) (omega arith) (lit< tt) refl
+    (0 * 2 ^ 12 + (n * 2 ^ 9 + 8)) (omega arith) (lit< tt) refl
     (below 13 (q / 32) (0 * 2 ^ 12 + (q / 8 % 4 * 2 ^ 10 + (n * 2 ^ 9 + (d * 2 ^ 4 + (1 * 2 ^ 3 + q % 8))))) 0x1208 (0 * 2 ^ 12 + (n * 2 ^ 9 + 8))
-        (omega arith) (lit< tt)
+    (omega arith) (lit< tt)
     (high_low 12 0 1 (q / 8 % 4 * 2 ^ 10 + (n * 2 ^ 9 + (d * 2 ^ 4 + (1 * 2 ^ 3 + q % 8)))) 0x208 (n * 2 ^ 9 + 8) (omega arith) (lit< tt) refl
     (below 10 (q / 8 % 4) (n * 2 ^ 9 + (d * 2 ^ 4 + (1 * 2 ^ 3 + q % 8))) 0x208 (n * 2 ^ 9 + 8) (omega arith) (lit< tt)
     (high_low 9 n 1 (d * 2 ^ 4 + (1 * 2 ^ 3 + q % 8)) 8 8 (omega arith) (lit< tt) hb
@@ -176,11 +176,11 @@ undone (Mov d r) h next f =
 undone (Cpi d k) h next f =
     let fields = constant_back 3 d k h.0 h.1 h.2 in
     back 10 (with_constant 0x3000 d k) next (lit< tt) (eq-eqb _ _ (high 12 3 15 (k / 16 * 256 + (d - 16) * 16 + k % 16) (omega arith) refl)) ∙ cc
-        (fields.0, fields.1)
+    (fields.0, fields.1)
 undone (Ldi d k) h next f =
     let fields = constant_back 14 d k h.0 h.1 h.2 in
     back 11 (with_constant 0xe000 d k) next (lit< tt) (eq-eqb _ _ (high 12 14 15 (k / 16 * 256 + (d - 16) * 16 + k % 16) (omega arith) refl)) ∙ cc
-        (fields.0, fields.1)
+    (fields.0, fields.1)
 undone (Com d) h next f =
     back 12 (0x9400 + d * 16) next (lit< tt) (eq-eqb _ _ (one_reg 74 0 d h (lit< tt) refl refl)) ∙ cc (reg_back 74 0 d h (lit< tt))
 undone (Inc d) h next f =
@@ -207,10 +207,10 @@ undone (Rcall k) h next f =
     back 22 (0xd000 + k) next (lit< tt) (eq-eqb _ _ (high 12 13 15 k h refl)) ∙ cc (near_back 13 k h)
 undone (Jmp place) h next f =
     back 23 (with_long_place 0x940c place) next (lit< tt) (eq-eqb _ _ (far_word 12 place h (omega arith) (jump_bit (place / 65536 % 2) (omega arith)))) ∙ cc
-        (far_back 12 place next h (omega arith) refl (f refl))
+    (far_back 12 place next h (omega arith) refl (f refl))
 undone (Call place) h next f =
     back 24 (with_long_place 0x940e place) next (lit< tt) (eq-eqb _ _ (far_word 14 place h (omega arith) (call_bit (place / 65536 % 2) (omega arith)))) ∙ cc
-        (far_back 14 place next h (omega arith) refl (f refl))
+    (far_back 14 place next h (omega arith) refl (f refl))
 undone Ret h next f =
     back 25 (0x9508) next (lit< tt) refl ∙ refl
 undone (In d a) h next f =

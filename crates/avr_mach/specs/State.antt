@@ -58,7 +58,7 @@ with_flag m s x =
 abbrev pub sreg : AvrState → ℕ
 sreg m =
     as_bit m.carry + (as_bit m.zero * 2 + as_bit m.negative * 4 + as_bit m.overflow * 8 + as_bit m.sign * 16 + as_bit m.half_carry * 32 + as_bit m.bit_copy *
-        64 + as_bit m.interrupts * 128)
+    64 + as_bit m.interrupts * 128)
 
 abbrev pub with_sreg : AvrState → ℕ → AvrState
 with_sreg m x =

@@ -89,8 +89,13 @@ module _ (readings : List PinReading) where
     begun = _;
     way = acts (paced (Start 0) 1 0) (here_is copier s.place 0 _ fresh.place refl) refl (tt, tt)
         (acts (paced (Label 0) 1 1) (here_is copier _ 1 _ (ap suc fresh.place) refl) refl (tt, tt)
-        (there (record { at = ap (λ n. suc (suc n)) fresh.place; closed = fresh.open_call; converting = fresh.converting; latches = fresh.latches;
-            copied = λ j r e. absurd (cc e) })));
+        (there (record {
+          at = ap (λ n. suc (suc n)) fresh.place;
+          closed = fresh.open_call;
+          converting = fresh.converting;
+          latches = fresh.latches;
+          copied = λ j r e. absurd (cc e);
+        })));
     counts = counted copier 0 _ (0 ∷ 1 ∷ 2 ∷ []) (ap (λ n. n ∷ suc n ∷ suc (suc n) ∷ []) fresh.place)
         (omega arith, (omega arith, (omega arith, (omega arith, (omega arith, tt)))));
   }
@@ -114,7 +119,7 @@ module _ (readings : List PinReading) where
                   let same : k ≡ j = cc e in
                   let is : r ≡ q = cc (read, g, ap (slice_get readings) same) in
                   ap (λ n. bit_of n 1) (get_or-set_same s.store.latches 1 put 0 long) ∙ put_1 (slice_index s.store.latches 1)
-                      (bit_of (slice_index r.levels 1) 0) ∙ ap (λ x. bit_of (slice_index x.levels 1) 0) is;
+                  (bit_of (slice_index r.levels 1) 0) ∙ ap (λ x. bit_of (slice_index x.levels 1) 0) is;
             }))));
         counts = counted copier (suc k) _ (3 ∷ 4 ∷ 1 ∷ 2 ∷ []) (ap (λ n. suc n ∷ suc (suc n) ∷ 1 ∷ 2 ∷ []) h.at)
             (omega arith, (omega arith, (omega arith, (omega arith, (omega arith, tt)))));
@@ -128,13 +133,15 @@ module _ (readings : List PinReading) where
   pub copier_keeps : (s : Bytes) (answers : List Bool) → IsFresh s → KeepsCounts copier s readings answers
   copier_keeps s answers fresh =
       keeps_counts copier readings (Copied readings) (λ k. []) copier_polls copier_turn s answers (copier_boot s fresh)
-      (all_at (λ i p. shape_of p.prim ≡ AtPoll → 1 ≤ p.turns) copier ((λ e. absurd (cc e)),
-          ((λ e. omega arith), ((λ e. omega arith), ((λ e. omega arith), ((λ e. omega arith), tt))))))
+      (all_at (λ i p. shape_of p.prim ≡ AtPoll → 1 ≤ p.turns) copier (
+        (λ e. absurd (cc e)),
+        ((λ e. omega arith), ((λ e. omega arith), ((λ e. omega arith), ((λ e. omega arith), tt)))),
+      ))
 
   pub copier_copies : (s : Bytes) (answers : List Bool) → IsFresh s → AtPolls copier s readings answers (IsCopied readings)
   copier_copies s answers fresh j b e at k r taken read =
       let held = at_each copier readings (Copied readings) (λ k. []) copier_polls copier_turn s answers (copier_boot s fresh) j b (paced (CyclePoll 0) 1 1) e
-          (here_is copier b.state.bytes.place 2 _ at refl) refl in
+      (here_is copier b.state.bytes.place 2 _ at refl) refl in
       held.0.copied k r taken read
 
 -- the counter at its poll, after k readings, where its word was `first`
@@ -213,12 +220,22 @@ module _ (first : ℕ) (readings : List PinReading) where
   pub twos_keep : (s : Bytes) (answers : List Bool) → IsFresh s → word_at s.store 0x60 ≡ first → KeepsCounts by_twos s readings answers
   twos_keep s answers fresh is =
       keeps_counts by_twos readings (Counts first) (λ k. []) twos_polls twos_turn s answers (twos_boot s fresh is)
-      (all_at (λ i p. shape_of p.prim ≡ AtPoll → 1 ≤ p.turns) by_twos ((λ e. absurd (cc e)),
-          ((λ e. omega arith), ((λ e. omega arith), ((λ e. omega arith),
-          ((λ e. omega arith), ((λ e. omega arith), ((λ e. omega arith), ((λ e. omega arith), ((λ e. omega arith), tt))))))))))
+      (all_at (λ i p. shape_of p.prim ≡ AtPoll → 1 ≤ p.turns) by_twos (
+        (λ e. absurd (cc e)),
+        (
+          (λ e. omega arith),
+          (
+            (λ e. omega arith),
+            (
+              (λ e. omega arith),
+              ((λ e. omega arith), ((λ e. omega arith), ((λ e. omega arith), ((λ e. omega arith), ((λ e. omega arith), tt))))),
+            ),
+          ),
+        ),
+      ))
 
   pub twos_count : (s : Bytes) (answers : List Bool) → IsFresh s → word_at s.store 0x60 ≡ first → AtPolls by_twos s readings answers (IsByTwos first)
   twos_count s answers fresh is j b e at =
       let held = at_each by_twos readings (Counts first) (λ k. []) twos_polls twos_turn s answers (twos_boot s fresh is) j b (paced (CyclePoll 0) 1 1) e
-          (here_is by_twos b.state.bytes.place 2 _ at refl) refl in
+      (here_is by_twos b.state.bytes.place 2 _ at refl) refl in
       held.0.word

@@ -44,7 +44,7 @@ unfolding ask_of
 counted_asks code c p h g e =
     ap (λ o. reading_ask o (device_ask (counted_step code c false no_reading))) (counted_is code c p h true no_reading g e)
     ∙ ap (λ o. reading_ask (count_on c.begun (Some (shaped code p.prim h c.bytes (effect p.prim c.bytes.store) true no_reading))) (device_ask o))
-        (counted_is code c p h false no_reading g e)
+    (counted_is code c p h false no_reading g e)
     ∙ asks_in code c.begun c.bytes (effect p.prim c.bytes.store) p.prim h
 
 plain_in : (code : List Paced) (s : Bytes) (d : Store) (q : BytePrim) (h : Shape) → asked_in h ≡ ask.Nothing →

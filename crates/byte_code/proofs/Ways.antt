@@ -39,7 +39,7 @@ module _ (code : List Paced) where
   way_on T U s _ _ more said (there h) k = k s h
   way_on T U s _ _ more said (acts {begun = begun} {sent = sent} p h e fits w) k =
       subst (λ o. Way U s ((act code p.prim s false no_reading).next.place ∷ (begun ++ more)) o)
-          (sym (append_assoc (act code p.prim s false no_reading).sent sent said))
+      (sym (append_assoc (act code p.prim s false no_reading).sent sent said))
       (acts p h e fits (way_on T U (act code p.prim s false no_reading).next begun sent more said w k))
   way_on T U s _ _ more said (waits {begun = begun} {sent = sent} p h e fits w) k =
       waits p h e fits (way_on T U (next_with s (effect p.prim s.store)) begun sent more said w k)
@@ -105,11 +105,25 @@ module _ (code : List Paced) (readings0 : List PinReading) (At : ℕ → Bytes �
     -- a step that goes on in the segment
     stepped : (b b' : Moment Counted) (w : OnWay b) (begun1 sent1 : List ℕ) (bs : List Bool) (next : Bytes) (said : List ℕ) → w.begun ≡ next.place ∷ begun1 →
         Way code (At b.taken) next begun1 sent1 → w.later ≡ said ++ sent1 →
-        Goes (record { state = record { bytes = next; begun = next.place ∷ b.state.begun }; readings = b.readings; answers = bs; taken = b.taken;
-        cost = b.cost + 0; waits = b.waits + 0; sent = b.sent ++ said }) ≡ Goes b' → OnWay b'
+        Goes (record {
+          state = record { bytes = next; begun = next.place ∷ b.state.begun };
+          readings = b.readings;
+          answers = bs;
+          taken = b.taken;
+          cost = b.cost + 0;
+          waits = b.waits + 0;
+          sent = b.sent ++ said;
+        }) ≡ Goes b' → OnWay b'
     stepped b b' w begun1 sent1 bs next said e way f g =
-        let same : record { state = record { bytes = next; begun = next.place ∷ b.state.begun }; readings = b.readings; answers = bs; taken = b.taken;
-            cost = b.cost + 0; waits = b.waits + 0; sent = b.sent ++ said } ≡ b' = cc in
+        let same : record {
+          state = record { bytes = next; begun = next.place ∷ b.state.begun };
+          readings = b.readings;
+          answers = bs;
+          taken = b.taken;
+          cost = b.cost + 0;
+          waits = b.waits + 0;
+          sent = b.sent ++ said;
+        } ≡ b' = cc in
         subst OnWay same (record {
           left = w.left;
           begun = begun1;
@@ -120,13 +134,34 @@ module _ (code : List Paced) (readings0 : List PinReading) (At : ℕ → Bytes �
         })
 
     -- an answer that is not ready
-    stayed : (b b' : Moment Counted) (w : OnWay b) (bs : List Bool) → Goes (record { state = b.state; readings = b.readings; answers = bs; taken = b.taken;
-        cost = b.cost + 0; waits = b.waits + 1; sent = b.sent ++ [] }) ≡ Goes b' → OnWay b'
+    stayed : (b b' : Moment Counted) (w : OnWay b) (bs : List Bool) → Goes (record {
+      state = b.state;
+      readings = b.readings;
+      answers = bs;
+      taken = b.taken;
+      cost = b.cost + 0;
+      waits = b.waits + 1;
+      sent = b.sent ++ [];
+    }) ≡ Goes b' → OnWay b'
     stayed b b' w bs g =
-        let same : record { state = b.state; readings = b.readings; answers = bs; taken = b.taken; cost = b.cost + 0; waits = b.waits + 1;
-            sent = b.sent ++ [] } ≡ b' = cc in
-        subst OnWay same (record { left = w.left; begun = w.begun; later = w.later; way = w.way; counts = w.counts; sent = ap (λ l. l ++ w.later)
-            (append-nil b.sent) ∙ w.sent })
+        let same : record {
+          state = b.state;
+          readings = b.readings;
+          answers = bs;
+          taken = b.taken;
+          cost = b.cost + 0;
+          waits = b.waits + 1;
+          sent = b.sent ++ [];
+        } ≡ b' = cc in
+        subst OnWay same (record {
+          left = w.left;
+          begun = w.begun;
+          later = w.later;
+          way = w.way;
+          counts = w.counts;
+          sent = ap (λ l. l ++ w.later)
+              (append-nil b.sent) ∙ w.sent;
+        })
 
     act_step : (b b' : Moment Counted) (w : OnWay b) → Acts code (At b.taken) b.state.bytes w.begun w.later → onward (counted_step code) b ≡ Goes b' → OnWay b'
     act_step b b' w a g =
@@ -134,8 +169,12 @@ module _ (code : List Paced) (readings0 : List PinReading) (At : ℕ → Bytes �
         stepped b b' w a.begun1 a.sent1 b.answers x.next x.sent a.begun_is a.way a.sent_is
         (sym (onward_is (counted_step code) b ask.Nothing b.readings b.answers (counted_asks code b.state a.p (shape_of a.p.prim) a.at refl ∙ a.plain) refl refl
         ∙ ap (within b 0 b.answers) (counted_is code b.state a.p (shape_of a.p.prim) false no_reading a.at refl)
-        ∙ ap (λ k. within b 0 b.answers (Some (record { next = record { bytes = x.next; begun = begun_after b.state.begun x.next.place k }; cycles = 0;
-            poll = k; sent = x.sent }))) (is_plain code b.state.bytes a.p.prim a.plain)) ∙ g)
+        ∙ ap (λ k. within b 0 b.answers (Some (record {
+          next = record { bytes = x.next; begun = begun_after b.state.begun x.next.place k };
+          cycles = 0;
+          poll = k;
+          sent = x.sent;
+        }))) (is_plain code b.state.bytes a.p.prim a.plain)) ∙ g)
 
     wait_step : (b b' : Moment Counted) (w : OnWay b) → Waits code (At b.taken) b.state.bytes w.begun w.later → (bs : List Bool) → b.answers ≡ bs →
         answered (counted_step code) b ask.Device b.readings bs ≡ Goes b' → OnWay b'
@@ -155,8 +194,15 @@ module _ (code : List Paced) (readings0 : List PinReading) (At : ℕ → Bytes �
     poll_step b b' w a (r ∷ rs) (true ∷ bs) e f g =
         let p = at_poll b.taken b.state.bytes a.holds in
         let s = (polled b.state.bytes (effect p.p.prim b.state.bytes.store) true r).next in
-        let same : record { state = record { bytes = s; begun = s.place ∷ [] }; readings = rs; answers = bs; taken = b.taken + 1; cost = 0; waits = 0;
-            sent = [] } ≡ b' = cc (ap (taking b rs bs) (counted_is code b.state p.p AtPoll true r p.at p.polls), g) in
+        let same : record {
+          state = record { bytes = s; begun = s.place ∷ [] };
+          readings = rs;
+          answers = bs;
+          taken = b.taken + 1;
+          cost = 0;
+          waits = 0;
+          sent = [];
+        } ≡ b' = cc (ap (taking b rs bs) (counted_is code b.state p.p AtPoll true r p.at p.polls), g) in
         let read = took_read b.taken readings0 r rs (w.left ∙ e) in
         let n = turn b.taken b.state.bytes r a.holds read.1 p.p p.at in
         let up : suc b.taken ≡ b.taken + 1 = sym (add-one b.taken) in
@@ -174,11 +220,11 @@ module _ (code : List Paced) (readings0 : List PinReading) (At : ℕ → Bytes �
     on_step b b' w g =
         ⊎_elim
         (λ a. let p = at_poll b.taken b.state.bytes a.holds in poll_step b b' w a b.readings b.answers refl refl
-            (sym (onward_is (counted_step code) b ask.Reading b.readings b.answers (counted_asks code b.state p.p AtPoll p.at p.polls) refl refl) ∙ g))
+        (sym (onward_is (counted_step code) b ask.Reading b.readings b.answers (counted_asks code b.state p.p AtPoll p.at p.polls) refl refl) ∙ g))
         (λ o. ⊎_elim
         (λ a. act_step b b' w a g)
         (λ a. wait_step b b' w a b.answers refl (sym (onward_is (counted_step code) b ask.Device b.readings b.answers
-            (counted_asks code b.state a.p AtDevice a.at a.polls) refl refl) ∙ g)) o)
+        (counted_asks code b.state a.p AtDevice a.at a.polls) refl refl) ∙ g)) o)
         (by_first code (At b.taken) b.state.bytes w.begun w.later w.way)
 
     fits_at : (b : Moment Counted) → OnWay b → (p : Paced) × (slice_get code b.state.bytes.place ≡ Some p) × Fits p.prim b.state.bytes
@@ -193,8 +239,15 @@ module _ (code : List Paced) (readings0 : List PinReading) (At : ℕ → Bytes �
 
     module _ (s0 : Bytes) (answers : List Bool) (boot : Segment 0 s0) where
       starts : OnWay (first_moment (uncounted s0) readings0 answers)
-      starts = record { left = refl; begun = boot.begun; later = told 0; way = boot.way; counts = λ i p h.
-          omega (arith, boot.counts i p h, times-cons i s0.place boot.begun, times-cons i s0.place []); sent = refl }
+      starts = record {
+        left = refl;
+        begun = boot.begun;
+        later = told 0;
+        way = boot.way;
+        counts = λ i p h.
+            omega (arith, boot.counts i p h, times-cons i s0.place boot.begun, times-cons i s0.place []);
+        sent = refl;
+      }
 
       on_way : (j : ℕ) (b : Moment Counted) → moment (counted_step code) j (first_moment (uncounted s0) readings0 answers) ≡ Some b → OnWay b
       on_way j b e = keeps_on (counted_step code) OnWay (λ c d w g. on_step c d w g) j (first_moment (uncounted s0) readings0 answers) b starts e

@@ -60,7 +60,7 @@ abbrev pub routine_code : Routine → List PrimKind
 routine_code Multiply = kind.Move ∷ kind.PutByte ∷ kind.MultiplyStep ∷ kind.Loop ∷ kind.Return ∷ []
 routine_code Divide =
     kind.Xor ∷ kind.NegateIf ∷ kind.NegateIf ∷ kind.Move ∷ kind.PutByte ∷ kind.Equal ∷ kind.JumpOnFlag ∷ kind.DivideStep ∷ kind.Loop ∷ kind.NegateIf ∷
-        kind.Return
+    kind.Return
     ∷ kind.Move ∷ kind.Return ∷ []
 routine_code Check = kind.PutBit true ∷ kind.JumpWrites ∷ kind.JumpNoneWaits ∷ kind.EepromFlush ∷ kind.Return ∷ kind.PutBit true ∷ kind.Return ∷ []
 routine_code Load = kind.EepromGet ∷ kind.EepromNext ∷ kind.EepromGet ∷ kind.Return ∷ []

@@ -65,7 +65,7 @@ AtPolls code s readings answers T =
 abbrev pub IsCopied : List PinReading → Moment Counted → Type 0
 IsCopied readings b =
     (k : ℕ) (r : PinReading) → b.taken ≡ suc k → slice_get readings k ≡ Some r → bit_of (slice_index b.state.bytes.store.latches 1) 1 ≡ bit_of
-        (slice_index r.levels 1) 0
+    (slice_index r.levels 1) 0
 
 -- the word is 2 more for each reading, modulo 65536
 abbrev pub IsByTwos : ℕ → Moment Counted → Type 0

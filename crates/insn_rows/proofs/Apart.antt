@@ -49,7 +49,7 @@ pub tests_apart : (a b : InsnRow) → are_apart a b ≡ true → Apart a b
 tests_apart a b t w ma mb =
     let s = sound a.mask a.bits b.mask b.bits w (eqb-true _ _ ma) (eqb-true _ _ mb) in
     false≢true (sym (all_hold (bit_and a.bits a.mask == a.bits) (bit_and b.bits b.mask == b.bits) (bit_and a.bits b.mask == bit_and b.bits a.mask)
-        (eq-eqb _ _ s.0) (eq-eqb _ _ s.1) (eq-eqb _ _ s.2)) ∙ t)
+    (eq-eqb _ _ s.0) (eq-eqb _ _ s.1) (eq-eqb _ _ s.2)) ∙ t)
 
 pub apart_tests : (a b : InsnRow) → Apart a b → are_apart a b ≡ true
 apart_tests a b h = by (are_apart a b) refl
@@ -89,4 +89,4 @@ pub all_tests : (rows : List InsnRow) → ((i j : ℕ) (d : InsnRow) → i < j �
 all_tests [] h = refl
 all_tests (row ∷ rows) h =
     both_true (first_of_all row rows (λ j d lt. h zero (suc j) d (omega arith) (omega arith)))
-        (all_tests rows (λ i j d lt within. h (suc i) (suc j) d (omega arith) (omega arith)))
+    (all_tests rows (λ i j d lt within. h (suc i) (suc j) d (omega arith) (omega arith)))

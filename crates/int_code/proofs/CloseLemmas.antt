@@ -54,11 +54,11 @@ module _ (ops : List IntOp) where
   parts_by : ((es : List Bool) → nests ops es ≡ parts es) → (shape : Shape) (es : List Bool) → nests_by shape (nests ops) es ≡ parts_behind shape es
   parts_by rest Opens es =
       rw (past_opening (closes ops) 0 es) (rest (false ∷ es) ∙ inner_first (balances ops (length (false ∷ es))) (all_close ops) (closes ops 0 false)
-          (open_close (closes ops) 1 es))
+      (open_close (closes ops) 1 es))
   parts_by rest Turns [] = refl
   parts_by rest Turns (e ∷ es) =
       rw (past_turning (closes ops) 0 es) (ap (λ x. not e && x) (rest (true ∷ es)) ∙ flag_in (not e) (balances ops (length (true ∷ es))) (all_close ops)
-          (closes ops 0 true) (open_close (closes ops) 1 es))
+      (closes ops 0 true) (open_close (closes ops) 1 es))
   parts_by rest Closes [] = refl
   parts_by rest Closes (e ∷ es) = rw (past_closing (closes ops) 0 es) (rest es)
   parts_by rest Plain es = rw (past_plain (closes ops) 0 es) (rest es)

@@ -21,4 +21,4 @@ pub history_count : (ops : List IntOp) (t : Store) (rs : List Reading) → All (
 history_count ops t [] = All-nil (λ (m : Moment). m.count ≤ length ops)
 history_count ops t (r ∷ rs) =
     All-cons (λ (m : Moment). m.count ≤ length ops) (cycle r ops t) (history ops (cycle r ops t).store rs) (cycle_count r ops t)
-        (history_count ops (cycle r ops t).store rs)
+    (history_count ops (cycle r ops t).store rs)

@@ -74,7 +74,7 @@ data_passes t before low bytes none unended inside new =
     any_fails (λ a. is_some (given before a)) low (length bytes) (λ k h. ap is_some (new k h)) in
     ap (λ b. if b then end_fault (Data low bytes) else open_fault t before (Data low bytes)) unended
     ∙ ap (λ s. if list_any (λ a. not (is_in_area t a)) (range_with_len s (length bytes)) then Some Outside else if list_any (λ a. is_some (given before a))
-        (range_with_len s (length bytes)) then Some Overlap else None) first
+    (range_with_len s (length bytes)) then Some Overlap else None) first
     ∙ ap (λ b. if b then Some Outside else if list_any (λ a. is_some (given before a)) (range_with_len low (length bytes)) then Some Overlap else None) within
     ∙ ap (λ b. if b then Some Overlap else None) fresh
 
@@ -121,7 +121,7 @@ words_fit [] h = λ k. omega arith
 words_fit (w ∷ ws) h =
     let word : w < 65536 = All-head (λ v. v < 65536) w ws h in
     fits_cons (w % 256) (w / 256 ∷ word_bytes ws) (omega arith) (fits_cons (w / 256) (word_bytes ws) (omega arith)
-        (words_fit ws (All-tail (λ v. v < 65536) w ws h)))
+    (words_fit ws (All-tail (λ v. v < 65536) w ws h)))
 
 word_bytes-append : (xs ys : List ℕ) → word_bytes (xs ++ ys) ≡ word_bytes xs ++ word_bytes ys
 word_bytes-append [] ys = refl
@@ -164,7 +164,7 @@ data_read t (suc n) address ws before bytes f count place fit room =
     (All-drop (λ w. w < 65536) 8 ws fit) (omega arith) in
     let all : (bytes ++ front) ++ word_bytes (drop 8 ws) ≡ bytes ++ word_bytes ws =
     append_assoc bytes front (word_bytes (drop 8 ws)) ∙ ap (λ l. bytes ++ l) (sym (word_bytes-append (take 8 ws) (drop 8 ws)) ∙ ap word_bytes
-        (take-append-drop 8 ws)) in (
+    (take-append-drop 8 ws)) in (
       next.0,
       rw (← all) next.1,
       λ rest.

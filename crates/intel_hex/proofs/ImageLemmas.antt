@@ -210,4 +210,4 @@ pub read_fits : (t : Target) (text : List ℕ) (image : Image) → hex_verdict t
 unfolding Fits
 read_fits t text image is =
     subst (Fits t) is (verdict_fits t [] (sayings (is_over FILE_BYTES text) (lines (judged FILE_BYTES text))) none_small
-        (sayings_fit (is_over FILE_BYTES text) (lines (judged FILE_BYTES text))))
+    (sayings_fit (is_over FILE_BYTES text) (lines (judged FILE_BYTES text))))

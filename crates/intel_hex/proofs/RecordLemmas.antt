@@ -27,7 +27,7 @@ encoding_other c [] none fits = All-nil (λ x. x ≢ c)
 encoding_other c (b ∷ rest) none fits =
     let byte : b < 256 = fits 0 in
     All-cons (λ x. x ≢ c) (slice_index upper_digits (b / 16)) (slice_index upper_digits (b % 16) ∷ encode_upper rest)
-        (digit_other (b / 16) c (omega arith) none)
+    (digit_other (b / 16) c (omega arith) none)
     (All-cons (λ x. x ≢ c) (slice_index upper_digits (b % 16)) (encode_upper rest) (digit_other (b % 16) c (omega arith) none)
     (encoding_other c rest none (λ k. fits (suc k))))
 
@@ -108,7 +108,7 @@ line_said kind address bytes said k a few fits is =
     ap (λ l. 58 ∷ l) (encoding_last c front) in
     let same : without_return (record_line kind address bytes) ≡ record_line kind address bytes =
     ap without_return snoc ∙ kept (58 ∷ encode_upper front ++ slice_index upper_digits (c / 16) ∷ []) last (digit_other (c % 16) 13 (omega arith) refl) ∙ sym
-        snoc in
+    snoc in
     ap marked same
     ∙ ap decoded (decode_of-encode_upper (front ++ c ∷ []) (fits_record kind address bytes k a few fits))
     ∙ bytes_said kind address bytes said is

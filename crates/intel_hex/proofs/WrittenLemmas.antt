@@ -246,7 +246,7 @@ lines_read image fits =
     ∙ end_read t third.0 third.1
     ∙ ap (λ byte. Ok (image_of t byte)) same
     ∙ ap Ok (image_back image (with_config image.config (word_bytes image.words)) fits (config_low image.config (word_bytes image.words))
-        (config_back pic image.config (word_bytes image.words) fits.config (omega arith)))
+    (config_back pic image.config (word_bytes image.words) fits.config (omega arith)))
 
 pub reads_back : (image : Image) → IsImage image → hex_verdict image.target (hex_text image) ≡ Ok image
 reads_back image fits =

@@ -97,8 +97,19 @@ pub record Good (d : Draft) : Type 0 where
 
 pub good_start : Good start
 good_start = record {
-  names = record { inputs = refl; outputs = refl; analogs = refl; variables = refl; relays = refl; persistent = refl; analog_names = refl;
-      persistent_variables = refl; starts = refl; few_relays = omega arith; few_persistent = omega arith };
+  names = record {
+    inputs = refl;
+    outputs = refl;
+    analogs = refl;
+    variables = refl;
+    relays = refl;
+    persistent = refl;
+    analog_names = refl;
+    persistent_variables = refl;
+    starts = refl;
+    few_relays = omega arith;
+    few_persistent = omega arith;
+  };
   operations = record { range = All-nil (IsInRange (sizes start)); open_ifs = λ rest. refl };
   at = record { inputs = refl; outputs = refl; analogs = refl; variables = refl; relays = refl; persistent = refl; ops = refl; ifs = refl };
 }
@@ -173,8 +184,16 @@ magic_grown : (d : Draft) → Good (record d { stage = stage.Start }) → Grown 
 magic_grown d g = record { more = refl; count = omega arith; good = record { names = g.names; operations = g.operations; at = new } }
   where
     new : IsNew (record d { stage = stage.Headed })
-    new = record { inputs = g.at.inputs; outputs = g.at.outputs; analogs = g.at.analogs; variables = g.at.variables; relays = g.at.relays;
-        persistent = g.at.persistent; ops = g.at.ops; ifs = g.at.ifs }
+    new = record {
+      inputs = g.at.inputs;
+      outputs = g.at.outputs;
+      analogs = g.at.analogs;
+      variables = g.at.variables;
+      relays = g.at.relays;
+      persistent = g.at.persistent;
+      ops = g.at.ops;
+      ifs = g.at.ifs;
+    }
 
 cycle_grown : (d : Draft) (n : ℕ) → Good (record d { stage = stage.Headed })
     → Grown (record d { stage = stage.Headed }) (Cycle n) (record d { stage = stage.Named; cycle = n })
@@ -288,7 +307,7 @@ variable_grown d n value new g = record {
       let last_one = last (variables d.names.variables d.starts) (variables (d.names.variables ++ n ∷ []) (d.starts ++ value ∷ [])) (Variable n value)
       (variables_push d.names.variables d.starts n value g.names.starts) in
       rw (g.at.0, g.at.1) (headed d.cycle _ _ (Variable n value) (behind (map Input d.names.inputs) _ _ (Variable n value)
-          (behind (map Output d.names.outputs) _ _ (Variable n value) (behind (map Analog d.names.analog) _ _ (Variable n value) last_one))));
+      (behind (map Output d.names.outputs) _ _ (Variable n value) (behind (map Analog d.names.analog) _ _ (Variable n value) last_one))));
   count = omega arith;
   good = record {
     names = record {

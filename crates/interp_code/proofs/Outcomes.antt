@@ -198,7 +198,7 @@ at_named d few h =
     let through = run_variables d d.names.variables more d.starts (zeros more) (BitCount (length d.names.relays) ∷ (Code ∷ (End ∷ []))) (zeros_count more)
     (missing_differ d.names.variables d.names.analog) in
     rw through (at_bits_named (record d { names = record d.names { variables = vs }; starts = d.starts ++ zeros more })
-        (missing_complete d.names.variables d.names.analog) few h)
+    (missing_complete d.names.variables d.names.analog) few h)
 
 ending_ends : (s : Stage) (d : Draft) → Good (record d { stage = s }) → Ends (run (record d { stage = s }) (ending_at s d))
 ending_ends stage.Start d g = rw (g.at.variables, g.at.analogs, g.at.relays, g.at.ifs) (_, refl, refl)

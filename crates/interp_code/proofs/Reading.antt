@@ -162,9 +162,9 @@ accepts cycle names program sound =
     ∙ to_kept cycle (lists names.inputs names.outputs names.analog names.variables [] []) program.starts names.relays names.persistent program.bits
     (Code ∷ ops) sound.analog_variables
     ∙ run_list (λ n. true) MOST_BITS (λ ns. kept cycle (lists names.inputs names.outputs names.analog names.variables ns []) program.starts) Relay each_relay
-        [] names.relays persistent few_relays (any_name names.relays) sound.relays
+    [] names.relays persistent few_relays (any_name names.relays) sound.relays
     ∙ run_list (λ n. list_any (bytes_eq n) names.variables) MOST_PERSISTENT (λ ns. kept cycle (lists names.inputs names.outputs names.analog names.variables
-        names.relays ns) program.starts) Persistent each_persistent [] names.persistent bits few_persistent sound.persistent_variables sound.persistent
+    names.relays ns) program.starts) Persistent each_persistent [] names.persistent bits few_persistent sound.persistent_variables sound.persistent
     ∙ run_bits cycle (record names { memories = 0 }) program.starts program.bits program.ops sound.bit_count sound.few_bits range sound.well_formed.nests
   where
     ops : List Line

@@ -169,9 +169,9 @@ module _ (n : Sizes) (small : IsSmall n) where
       words_read (Operation (Tab v w values)) (codes "tab" ∷ (variable_text v ∷ (number_text w ∷ (decimal (length values) ∷ map signed_decimal values))))
       (ap (pieces 32) (table_text v w values)
       ∙ piece_cut (codes "tab") variable tab ∙ ap (λ ws. codes "tab" ∷ ws) (piece_cut (variable_text v) number a.clean ∙ ap (λ ws. variable_text v ∷ ws)
-          (piece_cut (number_text w) count b.clean ∙ ap (λ ws. number_text w ∷ ws) (values_pieces (decimal (length values)) values c.clean all))))
+      (piece_cut (number_text w) count b.clean ∙ ap (λ ws. number_text w ∷ ws) (values_pieces (decimal (length values)) values c.clean all))))
       (table_says (variable_text v) (number_text w) (decimal (length values)) (map signed_decimal values) (Tab v w values)
-          (rw (a.of, b.of, c.of, values_read values all) refl))
+      (rw (a.of, b.of, c.of, values_read values all) refl))
       (ap (lacks 10) (table_text v w values) ∙ spaced (codes "tab") variable tab (spaced (variable_text v) number a.clean (spaced (number_text w) count b.clean
       (list_all-append (λ x. not (x == 10)) (decimal (length values)) (values_text values) ∙ rw (c.clean 10 (omega arith), values_clean values all) refl))))
 

@@ -87,7 +87,7 @@ one_passes word a =
     either IsInForm (bytes_eq word (codes "LDint")) (magic_of a) _ (λ h. either IsInForm (bytes_eq a (codes "1")) (Some Magic) None (λ k. tt) tt)
     (either IsInForm (bytes_eq word (codes "cycle")) _ _ (λ h. mapped (λ n. n ≤ 999999999) Cycle (λ n k. k) (number_to 999999999 a) (number_passes 999999999 a))
     (either IsInForm (bytes_eq word (codes "bits")) _ _ (λ h. mapped (λ n. Unit {0}) BitCount (λ n k. tt) (number_to most_count a)
-        (any_passes (number_to most_count a)))
+    (any_passes (number_to most_count a)))
     (name_line_passes word a)))
 
 variable_passes : (n : Option (List ℕ)) (value : Option ℤ) → Passes IsName n → Passes IsInForm (with_two Variable n value)
@@ -195,22 +195,22 @@ device_op_holds word a b =
     either HoldsNumbers (bytes_eq word (codes "adc")) _ _
     (λ h. two_hold Any Any Adc (λ v k s t. tt) (variable_of a) (index b) (any_passes (variable_of a)) (any_passes (index b)))
     (either HoldsNumbers (bytes_eq word (codes "eerd")) _ _ (λ h. two_hold Any Any Eerd (λ v k s t. tt) (variable_of a) (index b) (any_passes (variable_of a))
-        (any_passes (index b)))
+    (any_passes (index b)))
     (either HoldsNumbers (bytes_eq word (codes "eewr")) _ _ (λ h. two_hold HoldsNumber Any Eewr (λ w k s t. s) (number_of a) (index b) (source_passes a)
-        (any_passes (index b)))
+    (any_passes (index b)))
     (either HoldsNumbers (bytes_eq word (codes "pwm")) _ _ (λ h. two_hold HoldsNumber (λ n. n ≤ most_count) Pwm (λ w hz s t. (s, hertz hz t)) (number_of a)
-        (number_to most_count b) (source_passes a) (number_passes most_count b))
+    (number_to most_count b) (source_passes a) (number_passes most_count b))
     (either HoldsNumbers (bytes_eq word (codes "rx")) _ None (λ h. two_hold Any Any Rx (λ v b s t. tt) (variable_of a) (dest_of b) (any_passes (variable_of a))
-        (any_passes (dest_of b))) tt))))
+    (any_passes (dest_of b))) tt))))
 
 variable_op_holds : (word a b : List ℕ) → Passes HoldsNumbers (variable_op word a b)
 variable_op_holds word a b =
     either HoldsNumbers (bytes_eq word (codes "lit")) _ _
     (λ h. two_hold Any IsNumber Lit (λ v n s t. t) (variable_of a) (integer b) (any_passes (variable_of a)) (integer_passes b))
     (either HoldsNumbers (bytes_eq word (codes "mov")) _ _ (λ h. two_hold Any Any Mov (λ v from s t. tt) (variable_of a) (variable_of b)
-        (any_passes (variable_of a)) (any_passes (variable_of b)))
+    (any_passes (variable_of a)) (any_passes (variable_of b)))
     (either HoldsNumbers (bytes_eq word (codes "ifee")) _ _ (λ h. two_hold Any Any Ifee (λ v k s t. tt) (variable_of a) (index b) (any_passes (variable_of a))
-        (any_passes (index b)))
+    (any_passes (index b)))
     (device_op_holds word a b)))
 
 op_with_two_holds : (word a b : List ℕ) → Passes HoldsNumbers (op_with_two word a b)
@@ -218,11 +218,11 @@ op_with_two_holds word a b =
     either HoldsNumbers (bytes_eq word (codes "cpy")) _ _
     (λ h. two_hold Any Any Cpy (λ b s j k. tt) (dest_of a) (source_of b) (any_passes (dest_of a)) (any_passes (source_of b)))
     (either HoldsNumbers (bytes_eq word (codes "not")) _ _ (λ h. two_hold Any Any Not (λ b s j k. tt) (dest_of a) (source_of b) (any_passes (dest_of a))
-        (any_passes (source_of b)))
+    (any_passes (source_of b)))
     (either HoldsNumbers (bytes_eq word (codes "iflt")) _ _ (λ h. two_hold HoldsNumber HoldsNumber Iflt (λ w u j k. (j, k)) (number_of a) (number_of b)
-        (source_passes a) (source_passes b))
+    (source_passes a) (source_passes b))
     (either HoldsNumbers (bytes_eq word (codes "ifeq")) _ _ (λ h. two_hold HoldsNumber HoldsNumber Ifeq (λ w u j k. (j, k)) (number_of a) (number_of b)
-        (source_passes a) (source_passes b))
+    (source_passes a) (source_passes b))
     (variable_op_holds word a b))))
 
 computed_holds : (f : ℕ → NumSource → NumSource → IntOp) → ((v : ℕ) (w u : NumSource) → HoldsNumber w → HoldsNumber u → HoldsNumbers (f v w u))
@@ -239,7 +239,7 @@ op_with_three_holds word a b c =
     (either HoldsNumbers (bytes_eq word (codes "div")) _ _ (λ h. computed_holds Div (λ v w u j k. (j, k)) a b c)
     (either HoldsNumbers (bytes_eq word (codes "tx")) _ None
     (λ h. three_hold HoldsNumber Any Any Tx (λ w s b i j k. i) (number_of a) (source_of b) (dest_of c) (source_passes a) (any_passes (source_of b))
-        (any_passes (dest_of c)))
+    (any_passes (dest_of c)))
     tt))))
 
 table_holds : (word a b count : List ℕ) (words : List (List ℕ)) → Passes HoldsNumbers (table_of word a b count words)
@@ -258,7 +258,7 @@ table_holds word a b count words = either HoldsNumbers (bytes_eq word (codes "ta
         behind (λ p. Any p.0 × HoldsNumber p.1 × Any p.2) HoldsNumbers (table_with words) (λ p k. with_head p k.1)
         (all_three (variable_of a) (number_of b) (number_to most_values count))
         (three_pass Any HoldsNumber Any (variable_of a) (number_of b) (number_to most_values count) (any_passes (variable_of a)) (source_passes b)
-            (any_passes (number_to most_values count)))
+        (any_passes (number_to most_values count)))
 
 op_holds : (words : List (List ℕ)) → Passes HoldsNumbers (op_of words)
 op_holds [] = tt

@@ -124,7 +124,7 @@ parts_written cycle names program =
     let rest : List ℕ = joined (map line_text (BitCount program.bits ∷ (Code ∷ []))) ++ (joined (map op_words program.ops) ++ codes "end\n") in
     ap (λ t. joined (map line_text (Magic ∷ (Cycle cycle ∷ []))) ++ t)
     (grouped (word (codes "input ") names.inputs) (word (codes "output ") names.outputs) (word (codes "analog ") names.analog)
-        (joined (map line_text (variables names.variables program.starts))) (word (codes "relay ") names.relays) (word (codes "persist ") names.persistent) rest
+    (joined (map line_text (variables names.variables program.starts))) (word (codes "relay ") names.relays) (word (codes "persist ") names.persistent) rest
     ∙ ap (λ t. t ++ rest) (names_written names program.starts))
     ∙ groups_written cycle names program
   where

@@ -29,8 +29,11 @@ AllRead-append (l ∷ ls) b ha hb = (ha.0, AllRead-append ls b ha.1 hb)
 names_read : (f : List ℕ → Line) → ((n : List ℕ) → is_name_within 66 n ≡ true → Reads (f n)) → (ns : List (List ℕ)) → list_all (is_name_within 66) ns ≡ true
     → AllRead (map f ns)
 names_read f each [] h = tt
-names_read f each (n ∷ ns) h = (each n (and_left (is_name_within 66 n) (list_all (is_name_within 66) ns) h), names_read f each ns
-    (and_right (is_name_within 66 n) (list_all (is_name_within 66) ns) h))
+names_read f each (n ∷ ns) h = (
+  each n (and_left (is_name_within 66 n) (list_all (is_name_within 66) ns) h),
+  names_read f each ns
+      (and_right (is_name_within 66 n) (list_all (is_name_within 66) ns) h),
+)
 
 pub variables_read : (ns : List (List ℕ)) (values : List ℤ) → list_all (is_name_within 66) ns ≡ true → All IsNumber values → AllRead (variables ns values)
 variables_read [] values h short = tt
@@ -42,8 +45,11 @@ variables_read (n ∷ ns) (v ∷ vs) h short = (
 
 ops_read : (n : Sizes) → IsSmall n → (ops : List IntOp) → All (IsInRange n) ops → All HoldsNumbers ops → AllRead (map Operation ops)
 ops_read n small [] h short = tt
-ops_read n small (op ∷ ops) h short = (op_reads n small op (All-head (IsInRange n) op ops h) (All-head HoldsNumbers op ops short), ops_read n small ops
-    (All-tail (IsInRange n) op ops h) (All-tail HoldsNumbers op ops short))
+ops_read n small (op ∷ ops) h short = (
+  op_reads n small op (All-head (IsInRange n) op ops h) (All-head HoldsNumbers op ops short),
+  ops_read n small ops
+      (All-tail (IsInRange n) op ops h) (All-tail HoldsNumbers op ops short),
+)
 
 -- a program as the code holds it: its numbers are in the ranges of their types
 pub record IsHeld (program : IntProgram) : Type 0 where

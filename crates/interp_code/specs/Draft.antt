@@ -42,8 +42,14 @@ abbrev pub start : Draft
 start = record { stage = stage.Start; cycle = 0; names = no_names; starts = []; bits = 0; ops = []; ifs = [] }
 
 abbrev pub sizes_with : ℕ → Names → Sizes
-sizes_with bits names = record { bits = bits; outputs = length names.outputs; inputs = length names.inputs; analogs = length names.analog;
-    variables = length names.variables; persistent = length names.persistent }
+sizes_with bits names = record {
+  bits = bits;
+  outputs = length names.outputs;
+  inputs = length names.inputs;
+  analogs = length names.analog;
+  variables = length names.variables;
+  persistent = length names.persistent;
+}
 
 abbrev pub sizes : Draft → Sizes
 sizes d = sizes_with d.bits d.names

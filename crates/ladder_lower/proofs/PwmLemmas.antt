@@ -83,8 +83,11 @@ element_uses p (Table dest index as_text values) k = record { duty = refl; hertz
 element_uses p kind k = none_used kind (element_code p kind k) refl refl refl (element_plain p kind k)
 
 leaf_agrees : (l : leaf.Leaf) (ops : List IntOp) → Uses l.kind ops → Agrees (l ∷ []) ops
-leaf_agrees l ops f = record { duty = rw (f.duty, or-false) refl; hertz = f.hertz ∙ sym (append-nil (option_to_list (rate_of l.kind)));
-    serial = rw (f.serial, or-false) refl }
+leaf_agrees l ops f = record {
+  duty = rw (f.duty, or-false) refl;
+  hertz = f.hertz ∙ sym (append-nil (option_to_list (rate_of l.kind)));
+  serial = rw (f.serial, or-false) refl;
+}
 
 pub program_agrees : (p : Layout) (gs : List Rung) → Ready p gs → Agrees (all_leaves gs) (program_code p gs)
 program_agrees p gs ready =

@@ -193,7 +193,7 @@ module _ (p : Layout) (z : Sizes) where
   element_in d (Shift name places) k lt h e s = rise_in d k _ lt (moves_in d name places h.variables s) s
   element_in d (Table to index as_text values) k lt h e s =
       where_in d (Tab (variable_of p to) (number_of p index) values) (table_in d to index values h.variables (first_true (nat_le (length values) TABLE_VALUES)
-          _ e) s) s
+      _ e) s) s
   element_in d (ReadAdc name) k lt h e s =
       where_in d (Adc (variable_of p name) (place_of p.analog name))
       (variable_in d name h.variables.0 s, (let at = place_below p.analog name h.place in let a = s.analogs in omega arith)) s

@@ -197,7 +197,7 @@ save_steps address name s =
     let c = check s in
     let n = c.now.kept.number name in
     both s c.now _ (answers s).steps (save_by address (low_byte n) (high_byte n) c.now (c.is_free && not (int_eq (saved_number c.now.kept address) n))
-        (λ h. (answers s).free (and_parts c.is_free _ h).0))
+    (λ h. (answers s).free (and_parts c.is_free _ h).0))
 
 persist_steps : (names : List (List ℕ)) (name : List ℕ) (s : Now) (power : Bool) → Steps s (cond power (persist names name s) s)
 persist_steps names name s false = quiet s s (same s)
@@ -242,7 +242,7 @@ module _ (names : List (List ℕ)) where
 
   saved_by : (name : List ℕ) (low high : ℕ) (c : Now) (b : Bool) → IsPlaced names name
       → Persists names c (cond b (with_pending (with_byte c (address_of names name) low) (Some (record { address = address_of names name + 1; byte = high })))
-          c)
+      c)
   saved_by name low high c true placed = record { duty = refl; waits = λ w. (place_of names name, placed, refl) }
   saved_by name low high c false placed = rests c
 
@@ -251,7 +251,7 @@ module _ (names : List (List ℕ)) where
       let c = check s in
       let n = c.now.kept.number name in
       persists_both s c.now _ (check_persists s) (saved_by name (low_byte n) (high_byte n) c.now
-          (c.is_free && not (int_eq (saved_number c.now.kept (address_of names name)) n)) placed)
+      (c.is_free && not (int_eq (saved_number c.now.kept (address_of names name)) n)) placed)
 
   persist_persists : (name : List ℕ) (s : Now) (power : Bool) → IsPlaced names name → Persists names s (cond power (persist names name s) s)
   persist_persists name s false placed = rests s

@@ -60,7 +60,7 @@ module _ (p : Project) (P : State → Type 0) (Q : Seen → Type 0) (keeps : (s 
 pub cycle_numbers : (p : Project) (s : State) (r : Seen) → HasNumbers p → SeesNumbers r → AreNumbers s.number → AreNumbers (cycle p s r).state.number
 cycle_numbers p s r f g h =
     (rungs_keep (terms p) r Holds (λ (l : leaf.Leaf). All IsNumber (literals l.kind)) (λ l. element_holds (terms p) r g l.kind) p.rungs f 0 (begin s r)
-        (record { number = h; received = g.received })).number
+    (record { number = h; received = g.received })).number
 
 pub history_numbers : (p : Project) (s : State) (rs : List Seen) → HasNumbers p → All SeesNumbers rs → AreNumbers s.number
     → All (λ (e : Ended). AreNumbers e.state.number) (history p s rs)
@@ -69,7 +69,7 @@ history_numbers p s rs f g h = history_keeps p (λ s. AreNumbers s.number) SeesN
 pub history_duty : (p : Project) (s : State) (rs : List Seen) → IsDuty s.duty → All (λ (e : Ended). IsDuty e.state.duty) (history p s rs)
 history_duty p s rs h =
     history_keeps p (λ s. IsDuty s.duty) (λ r. Unit {0}) (λ s r u h. cycle_kept p s r (λ (t : Now). IsDuty t.kept.duty) (duty_kept (persistent_of p)) h) rs
-        (λ k d lt. tt) s h
+    (λ k d lt. tt) s h
 
 pub history_waits : (p : Project) (s : State) (rs : List Seen) → WaitsFor (persistent_of p) s.pending
     → All (λ (e : Ended). WaitsFor (persistent_of p) e.state.pending) (history p s rs)

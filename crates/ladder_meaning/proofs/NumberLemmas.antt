@@ -98,7 +98,7 @@ operand_number s (Num n) f h = All-get_or IsNumber (n ∷ []) 0 n (omega arith) 
 counter_holds : (how : CounterHow) (name : List ℕ) (max : ℤ) (k : ℕ) (s : Now) (power : Bool) → Holds s → Holds (counter how name max k s power).now
 counter_holds how name max k s power h =
     memory_holds (set_where (rises s k power) s name (counted how max (s.kept.number name))) k power
-        (set_holds (rises s k power) s name _ (counted_number how max _) h)
+    (set_holds (rises s k power) s name _ (counted_number how max _) h)
 
 shifted_holds : (name : List ℕ) (n : ℕ) (s : Now) → Holds s → Holds (shifted name n s)
 shifted_holds name zero s h = h
@@ -160,7 +160,7 @@ save_holds : (address : ℕ) (name : List ℕ) (s : Now) → Holds s → Holds (
 save_holds address name s h =
     let t = check_holds s h in
     if_holds ((check s).is_free && not (int_eq (saved_number (check s).now.kept address) ((check s).now.kept.number name))) (check s).now _
-        (record { number = t.number; received = t.received }) t
+    (record { number = t.number; received = t.received }) t
 
 persist_holds : (names : List (List ℕ)) (name : List ℕ) (s : Now) (power : Bool) → Holds s → Holds (cond power (persist names name s) s)
 persist_holds names name s false h = h
@@ -188,7 +188,7 @@ element_holds p r g (Compare how a b) f k s power h = h
 element_holds p r g (Shift name places) f k s power h = shift_holds (rises s k power) name places k s power h
 element_holds p r g (Table dest index as_text values) f k s power h =
     if_holds power s (looked_up dest s (value_at values (operand s index))) (looked_holds dest s (value_at values (operand s index))
-        (value_number values (operand s index) f) h) h
+    (value_number values (operand s index) f) h) h
 element_holds p r g (ReadAdc name) f k s power h = set_holds power s name _ (g.analog name) h
 element_holds p r g (SetPwm name hz) f k s power h = if_holds power s _ (record { number = h.number; received = h.received }) h
 element_holds p r g (Recv name) f k s power h = receive_holds name s power s.received h.received h

@@ -33,7 +33,7 @@ placed_front : (xs ys : List (List ℕ)) (name : List ℕ) → IsPlaced xs name 
 placed_front [] ys name h = absurd (omega (arith, h))
 placed_front (x ∷ xs) ys name h =
     placed_by (bytes_eq x name) (place_of (xs ++ ys) name) (length (xs ++ ys))
-        (λ e. placed_front xs ys name (left_by (bytes_eq x name) (place_of xs name) (length xs) h e))
+    (λ e. placed_front xs ys name (left_by (bytes_eq x name) (place_of xs name) (length xs) h e))
 
 placed_last : (xs : List (List ℕ)) (name : List ℕ) → IsPlaced (xs ++ name ∷ []) name
 placed_last [] name = placed_by (bytes_eq name name) 0 0 (λ e. absurd (not_from_Decides (bytes_eq name name) (bytes_eq-Decides name name) e refl))
@@ -49,7 +49,7 @@ placed_seen (x ∷ xs) name h =
     let differs : bytes_eq x name ≡ false → bytes_eq name x ≡ true → ⊥ =
     λ e f. not_from_Decides (bytes_eq x name) (bytes_eq-Decides x name) e (sym ((bytes_eq-Decides name x).0 f)) in
     placed_by (bytes_eq x name) (place_of xs name) (length xs) (λ e. placed_seen xs name (other_true (bytes_eq name x) (list_any (bytes_eq name) xs) h
-        (differs e)))
+    (differs e)))
 
 kept_by : (xs ns : List (List ℕ)) (n name : List ℕ) (b : Bool) → ((xs : List (List ℕ)) → IsPlaced xs name → IsPlaced (firsts_from xs ns) name)
     → IsPlaced xs name → IsPlaced (cond b (firsts_from xs ns) (firsts_from (xs ++ n ∷ []) ns)) name

@@ -44,7 +44,7 @@ first_passes p none a (suc n) k le lt passes = by (p a) refl (first_passes p non
   where
     by : (b : Bool) → p a ≡ b
         → (a + 1 ≤ k → k < a + 1 + n → p k ≡ true → (p (unwrap_or (find p (range_with_len (a + 1) n)) none) ≡ true) ×
-            (unwrap_or (find p (range_with_len (a + 1) n)) none ≤ k))
+        (unwrap_or (find p (range_with_len (a + 1) n)) none ≤ k))
         → (p (unwrap_or (find p (range_with_len a (suc n))) none) ≡ true) × (unwrap_or (find p (range_with_len a (suc n))) none ≤ k)
     by true e rest = rw e (e, le)
     by false e rest = rw e (rest (past p a k le e passes) (omega (arith, lt)) passes)
@@ -65,5 +65,5 @@ pub least_passes : (s : PwmSetting) (value duty : ℕ) → duty < DUTIES → dut
     (duty_register s (least_duty s value) ≡ value) × (least_duty s value ≤ duty)
 least_passes s value duty lt has =
     let first = first_passes (λ d. nat_eq (duty_register s d) value) NO_DUTY 0 DUTIES duty (omega arith) (omega (arith, lt))
-        (test_true (duty_register s duty) value has) in
+    (test_true (duty_register s duty) value has) in
     (test_same (duty_register s (least_duty s value)) value first.0, first.1)

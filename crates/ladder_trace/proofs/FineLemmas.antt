@@ -51,7 +51,7 @@ input_fits n place value r h =
 analog_fits : (n : Names) (place : ℕ) (value : List ℕ) (r : Reading) → IsReadingOf n r → IfSome (give_analog place value r) (IsReadingOf n)
 analog_fits n place value r h =
     of_map _ (IsReadingOf n) _ (digits_to most_analog value) (any (digits_to most_analog value))
-        (λ k t. record { inputs = h.inputs; analog = length-set r.analog place (pos k) ∙ h.analog })
+    (λ k t. record { inputs = h.inputs; analog = length-set r.analog place (pos k) ∙ h.analog })
 
 -- a byte that is received changes no count
 byte_fits : (n : Names) (value : List ℕ) (r : Reading) → IsReadingOf n r → IfSome (give_byte value r) (IsReadingOf n)
@@ -79,7 +79,7 @@ pair_fits : (n : Names) (g : Given) (key value : List ℕ) → IsReadingOf n g.r
 pair_fits n g key value h =
     of_then _ (λ e. IsReadingOf n e.reading) _ (with_key key g.keys) (any (with_key key g.keys))
     (λ keys t. of_map (IsReadingOf n) (λ e. IsReadingOf n e.reading) (λ r. record { keys = keys; reading = r }) (give n key value g.reading)
-        (give_fits n key value g.reading h) (λ r k. k))
+    (give_fits n key value g.reading h) (λ r k. k))
 
 -- a token changes no count
 token_fits : (n : Names) (g : Given) (token : List ℕ) → IsReadingOf n g.reading → IfSome (token_gives n g token) (λ e. IsReadingOf n e.reading)
@@ -90,7 +90,7 @@ tokens_fit : (n : Names) (g : Given) (ts : List (List ℕ)) → IsReadingOf n g.
 tokens_fit n g [] h = h
 tokens_fit n g (t ∷ ts) h =
     of_then (λ e. IsReadingOf n e.reading) (λ e. IsReadingOf n e.reading) (λ e. tokens_give n e ts) (token_gives n g t) (token_fits n g t h)
-        (λ e k. tokens_fit n e ts k)
+    (λ e k. tokens_fit n e ts k)
 
 -- The bytes of the EEPROM.
 

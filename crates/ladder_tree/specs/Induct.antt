@@ -19,8 +19,12 @@ each_of P (e ∷ es) = (e.1, each_of P es)
 
 module _ (P : Node → Type 0) (on_leaf : (l : leaf.Leaf) → P (Leaf l)) (on_series : (ns : List Node) → Each P ns → P (Series ns))
     (on_parallel : (ns : List Node) → Each P ns → P (Parallel ns)) where
-  on_layer : (y : Node-F ((n : Node) × P n)) (x : Node-F Node) → elim y as (λ _. Node-F Node) [ Node-F.Leaf l ↦ Node-F.Leaf l | Node-F.Series es ↦
-      Node-F.Series (map (λ e. e.0) es) | Node-F.Parallel es ↦ Node-F.Parallel (map (λ e. e.0) es) ] ≡ x → P (roll-Node x)
+  on_layer : (y : Node-F ((n : Node) × P n)) (x : Node-F Node) → elim y as (λ _. Node-F Node) [
+    | Node-F.Leaf l ↦ Node-F.Leaf l
+    | Node-F.Series es ↦
+        Node-F.Series (map (λ e. e.0) es)
+    | Node-F.Parallel es ↦ Node-F.Parallel (map (λ e. e.0) es)
+  ] ≡ x → P (roll-Node x)
   on_layer (Node-F.Leaf l) x is = subst (λ z. P (roll-Node z)) is (subst P (sym (rolls-Leaf l)) (on_leaf l))
   on_layer (Node-F.Series es) x is = subst (λ z. P (roll-Node z)) is (subst P (sym (rolls-Series (map (λ e. e.0) es))) (on_series _ (each_of P es)))
   on_layer (Node-F.Parallel es) x is = subst (λ z. P (roll-Node z)) is (subst P (sym (rolls-Parallel (map (λ e. e.0) es))) (on_parallel _ (each_of P es)))

@@ -15,9 +15,7 @@ pub enum Peripheral {
     /// The analog-to-digital converter.
     Converter,
     /// The pulse-width modulator, at a rate in hertz.
-    Modulator {
-        hz: u32,
-    },
+    Modulator { hz: u32 },
     SerialPort,
     Eeprom,
 }

@@ -27,8 +27,8 @@ IsAt n (Some f) = line_of f ≡ n
 
 rows_at : (n : ℕ) (a b c d e f g h : Bool)
     → IsAt n (cond a (Some (LineTooLong n)) (cond b (Some (NotProject n))
-        (cond c (Some (NotBuilt n)) (cond d (Some (BadLine n)) (cond e (Some (UnknownChip n))
-        (cond f (Some (NumberRange n)) (cond g (Some (TooDeep n)) (cond h (Some (TooMany n)) None))))))))
+    (cond c (Some (NotBuilt n)) (cond d (Some (BadLine n)) (cond e (Some (UnknownChip n))
+    (cond f (Some (NumberRange n)) (cond g (Some (TooDeep n)) (cond h (Some (TooMany n)) None))))))))
 rows_at n true b c d e f g h = refl
 rows_at n false true c d e f g h = refl
 rows_at n false false true d e f g h = refl

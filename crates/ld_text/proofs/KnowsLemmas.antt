@@ -92,8 +92,8 @@ may_open p t (mark.Element l) h r = tt
 
 end_same : (p : Place) (b : Bool)
     → ((cond b (record p { site = site.Between }) (record p { depth = p.depth - 1 })).rungs ≡ p.rungs) ×
-        ((cond b (record p { site = site.Between }) (record p { depth = p.depth - 1 })).elements ≡ p.elements) ×
-        ((cond b (record p { site = site.Between }) (record p { depth = p.depth - 1 })).openings ≡ p.openings)
+    ((cond b (record p { site = site.Between }) (record p { depth = p.depth - 1 })).elements ≡ p.elements) ×
+    ((cond b (record p { site = site.Between }) (record p { depth = p.depth - 1 })).openings ≡ p.openings)
 end_same p true = (refl, refl, refl)
 end_same p false = (refl, refl, refl)
 
@@ -480,9 +480,11 @@ knows_at site.Inside s bytes size fs (Body mark.End) e k all a p =
     ends_at s.place s.tree (fs ++ Body mark.End ∷ []) (standing_behind size s (Body mark.End)) e k.1 all.counts.depth refl
     (body_more fs s mark.End (standing_behind size s (Body mark.End)) k.0 (suits_open s.tree mark.End k.1 tt) refl refl)
 knows_at site.Inside s bytes size fs (Body (mark.Element l)) e k all a p =
-    subst (λ y. KnowsAt y (fs ++ Body (mark.Element l) ∷ []) (standing_behind size s (Body (mark.Element l)))) (sym e)
-    (body_more fs s (mark.Element l) (standing_behind size s (Body (mark.Element l))) k.0 (suits_open s.tree (mark.Element l) k.1 tt) refl refl, building
-        s.tree k.1)
+    subst (λ y. KnowsAt y (fs ++ Body (mark.Element l) ∷ []) (standing_behind size s (Body (mark.Element l)))) (sym e) (
+      body_more fs s (mark.Element l) (standing_behind size s (Body (mark.Element l))) k.0 (suits_open s.tree (mark.Element l) k.1 tt) refl refl,
+      building
+          s.tree k.1,
+    )
   where
     building : (t : Tree) → IsBuilding t → IsBuilding (grown t (mark.Element l))
     building (Closed gs) h = absurd h

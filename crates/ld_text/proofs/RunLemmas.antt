@@ -172,7 +172,7 @@ fed_to (b ∷ bs) p n s clean short few within = by (eqb b 10) refl (λ q t. fed
 
     at_feed : (o : Taken) → taken n p (length p + 1) s ≡ o
         → ((q : List ℕ) (t : Standing) → IsLine q → length q ≤ LINE_BYTES → n + 1 ≤ t.place.bytes + 1 → t.place.bytes ≤ FILE_BYTES →
-            FedTo (n + 1) (q ++ bs) t (fed (Reads (n + 1) q t) bs))
+        FedTo (n + 1) (q ++ bs) t (fed (Reads (n + 1) q t) bs))
         → FedTo n (p ++ 10 ∷ bs) s (fed (line_done n o) bs)
     at_feed (Stops f) e rec = subst (FedTo n (p ++ 10 ∷ bs) s) (sym (fed_refused f bs)) (stopped_line n p bs s f clean e)
     at_feed (Goes t) e rec =
@@ -195,14 +195,14 @@ fed_to (b ∷ bs) p n s clean short few within = by (eqb b 10) refl (λ q t. fed
     at_other false e g rec =
         subst (FedTo n (p ++ b ∷ bs) s) (sym (fed_refused (LineTooLong n) bs))
         (subst (λ x. FedTo n x s (Refuses (LineTooLong n))) (append_assoc p (b ∷ []) bs) (long_line n (p ++ b ∷ []) bs s (clean_one p b clean g)
-            (full (length p) (length (p ++ b ∷ [])) e (length-append p (b ∷ [])))))
+        (full (length p) (length (p ++ b ∷ [])) e (length-append p (b ∷ [])))))
       where
         full : (k m : ℕ) → ltb k LINE_BYTES ≡ false → m ≡ k + 1 → LINE_BYTES < m
         full k m h e = grind (arith, nat_tests)
 
     by : (c : Bool) → eqb b 10 ≡ c
         → ((q : List ℕ) (t : Standing) → IsLine q → length q ≤ LINE_BYTES → n + 1 ≤ t.place.bytes + 1 → t.place.bytes ≤ FILE_BYTES →
-            FedTo (n + 1) (q ++ bs) t (fed (Reads (n + 1) q t) bs))
+        FedTo (n + 1) (q ++ bs) t (fed (Reads (n + 1) q t) bs))
         → ((q : List ℕ) → IsLine q → length q ≤ LINE_BYTES → n ≤ s.place.bytes + 1 → s.place.bytes ≤ FILE_BYTES → FedTo n (q ++ bs) s (fed (Reads n q s) bs))
         → FedTo n (p ++ b ∷ bs) s (fed (cond c (line_done n (taken n p (length p + 1) s)) (pushed n p s b)) bs)
     by true e line rec =
@@ -226,9 +226,11 @@ run_goes n (l ∷ ls) s t h = by (taken n l.bytes (size_of l) s) refl h (λ u. r
     by (Goes u) e h rec =
         let w = goes n l.bytes (size_of l) s u e in
         let p = place_behind n l s u w in
-        let r = rec u h in
-        (ap (λ o. or_else o (first_fault (behind s.place n l) (n + 1) ls)) w.faultless ∙ ap (λ p. first_fault p (n + 1) ls) p ∙ r.0, ap
-            (λ p. behind_all p (n + 1) ls) p ∙ r.1)
+        let r = rec u h in (
+          ap (λ o. or_else o (first_fault (behind s.place n l) (n + 1) ls)) w.faultless ∙ ap (λ p. first_fault p (n + 1) ls) p ∙ r.0,
+          ap
+              (λ p. behind_all p (n + 1) ls) p ∙ r.1,
+        )
 
 pub run_stops : (n : ℕ) (ls : List Line) (s : Standing) (f : ProjectFault) → run n ls s ≡ Stops f → first_fault s.place n ls ≡ Some f
 run_stops n [] s f h = absurd cc

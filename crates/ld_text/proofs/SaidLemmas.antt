@@ -125,7 +125,7 @@ mapped_element (Is j) k h = let same : rung.Element j ≡ rung.Element k = cc in
 -- a line that is one of the four words says no element
 no_alone : (token : List ℕ) (b c d e : Bool) (ts : List (List ℕ)) (other : Said RungLine) (k : LeafKind)
     → alone_or (cond b (Some rung.Rung) (cond c (Some (rung.Open circuit.Series)) (cond d (Some (rung.Open circuit.Parallel)) (cond e (Some rung.End) None))))
-        ts other ≡ Is (rung.Element k)
+    ts other ≡ Is (rung.Element k)
     → other ≡ Is (rung.Element k)
 no_alone token true c d e [] other k h = absurd cc
 no_alone token true c d e (t ∷ ts) other k h = absurd cc

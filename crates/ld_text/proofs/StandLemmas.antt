@@ -82,15 +82,15 @@ pub fault_parts : (p : Place) (n : ℕ) (bytes : List ℕ) (size : ℕ) (said : 
 fault_parts p n bytes size Bad h =
     rw h
     (or_cond (is_first p.site && is_bad Bad) (not (is_first p.site) && (begins_unbuilt p.target (tokens bytes) || names_unbuilt Bad)) (NotProject n)
-        (NotBuilt n) (Some (BadLine n)))
+    (NotBuilt n) (Some (BadLine n)))
 fault_parts p n bytes size Range h =
     rw h
     (or_cond (is_first p.site && is_bad Range) (not (is_first p.site) && (begins_unbuilt p.target (tokens bytes) || names_unbuilt Range)) (NotProject n)
-        (NotBuilt n) (Some (NumberRange n)))
+    (NotBuilt n) (Some (NumberRange n)))
 fault_parts p n bytes size (Is form) h =
     rw h
     (or_cond (is_first p.site && is_bad (Is form)) (not (is_first p.site) && (begins_unbuilt p.target (tokens bytes) || names_unbuilt (Is form)))
-        (NotProject n) (NotBuilt n) (form_fault p n size form))
+    (NotProject n) (NotBuilt n) (form_fault p n size form))
 
 pub only_said : (p : Place) (n : ℕ) (bytes : List ℕ) (size : ℕ) (said : Said LineForm) → ltb LINE_BYTES (length bytes) ≡ false →
     word_fault p n bytes said ≡ None
@@ -109,7 +109,7 @@ pub line_taken : (n : ℕ) (bytes : List ℕ) (size : ℕ) (s t : Standing) (sai
 line_taken n bytes size s t said form f h e g =
     ap (λ u. Reads (next n) [] (record u { place = record u.place { bytes = s.place.bytes + size } })) g
     ∙ sym (ap (line_done n) (ap (λ o. taken_as o (said_in s.place.site n bytes) n size s) (ap (fault_of s.place n bytes size) (sym h) ∙ f) ∙ ap
-        (λ x. taken_as None x n size s) (sym h ∙ e)))
+    (λ x. taken_as None x n size s) (sym h ∙ e)))
 
 -- a line that stops a reader refuses it
 pub stop_refuses : (n : ℕ) (o : Taken) (e : TextError) → IsStopped o e → IsRefused (line_done n o) e

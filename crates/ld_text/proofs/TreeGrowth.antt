@@ -54,7 +54,7 @@ so_far-ended gs [] ns = spelled-one gs (record { nodes = ns }) ∙ inside-more g
 so_far-ended gs (f ∷ fs) ns =
     ap (λ l. spelled gs ++ mark.Rung ∷ l)
     (into-one fs f.nodes (closed f.circuit ns) ∙ ap (λ l. into fs f.nodes ++ l) (spelled-closed f.circuit ns) ∙ sym
-        (append_assoc (into fs f.nodes) (mark.Open f.circuit ∷ spelled_nodes ns) (mark.End ∷ [])))
+    (append_assoc (into fs f.nodes) (mark.Open f.circuit ∷ spelled_nodes ns) (mark.End ∷ [])))
     ∙ inside-more gs (into fs f.nodes ++ mark.Open f.circuit ∷ spelled_nodes ns) (mark.End ∷ [])
 
 -- the line fits: a rung where none is open, and any other line in one

@@ -76,7 +76,7 @@ whole_by text (Reads k l t) far = by l far.rest refl
         ∙ ap (λ x. at_end (length (lines_of text) + 1) (taken x (b ∷ bs) (length (b ∷ bs)) t)) far.number
         ∙ ap (at_end (length (lines_of text) + 1))
         (sym (lines ∙ ap (λ x. run (1 + length (ended_lines text)) (open_line x) t) e ∙ then_none (1 + length (ended_lines text) + 1)
-            (taken (1 + length (ended_lines text)) (b ∷ bs) (length (b ∷ bs)) t)))
+        (taken (1 + length (ended_lines text)) (b ∷ bs) (length (b ∷ bs)) t)))
 whole_by text (Refuses f) far = by (run 1 (ended_lines text) first) refl far
   where
     lines : (o : Taken) → run 1 (ended_lines text) first ≡ o
@@ -95,7 +95,7 @@ whole_by text (Refuses f) far = by (run 1 (ended_lines text) first) refl far
         ap Rejects (sym same)
         ∙ ap (at_end (length (lines_of text) + 1))
         (sym (lines (Goes t) g ∙ ap (λ x. run (1 + length (ended_lines text)) (open_line x) t) e ∙ then_none (1 + length (ended_lines text) + 1)
-            (taken (1 + length (ended_lines text)) (b ∷ bs) (length (b ∷ bs)) t) ∙ too_long (1 + length (ended_lines text)) (b ∷ bs) (length (b ∷ bs)) t h))
+        (taken (1 + length (ended_lines text)) (b ∷ bs) (length (b ∷ bs)) t) ∙ too_long (1 + length (ended_lines text)) (b ∷ bs) (length (b ∷ bs)) t h))
 
     by : (o : Taken) → run 1 (ended_lines text) first ≡ o → early_run o (1 + length (ended_lines text)) (behind_feeds text) ≡ Some f
         → Rejects f ≡ at_end (length (lines_of text) + 1) (run 1 (lines_of text) first)

@@ -105,7 +105,7 @@ within_66 : (name : List ℕ) → is_name name ≡ true → is_name_within 66 na
 within_66 [] h = cc
 within_66 (b ∷ bs) h =
     and_last (not (is_digit b)) (list_all is_name_byte (b ∷ bs)) (nat_le (length (b ∷ bs)) NAME_BYTES) (nat_le (length (b ∷ bs)) 66)
-        (within_more (length (b ∷ bs))) h
+    (within_more (length (b ∷ bs))) h
 
 all_within : (names : List (List ℕ)) → list_all is_name names ≡ true → list_all (is_name_within 66) names ≡ true
 all_within [] h = refl

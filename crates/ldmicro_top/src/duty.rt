@@ -22,5 +22,8 @@ fn pwm_setting(legal: &Legal) -> Option<PwmSetting>
 pub fn duty_shown(legal: &Legal) -> DutyShown
     ensures { result ≡ duty_shown legal.now.project }
 {
-    DutyShown::shown_where(any_pwm(legal.project().rungs.as_slice()), pwm_setting(legal))
+    DutyShown::shown_where(
+        any_pwm(legal.project().rungs.as_slice()),
+        pwm_setting(legal),
+    )
 }

@@ -47,7 +47,7 @@ paired_by first n half rest i k a true e whole pairs even h =
     ap (λ t. cond t (Some (first + (k + 1))) (rest (k + 1 - n))) (below_too i k half n even whole e) ∙ ap Some next
 paired_by first n half rest i k a false e whole pairs even h =
     ap (λ t. cond t (Some (first + (k + 1))) (rest (k + 1 - n))) (past_too k n e) ∙ ap rest (step_past k n e) ∙ pairs (i - half) (k - n) a
-        (half_past i k half n even whole) h
+    (half_past i k half n even whole) h
 
 -- a range of an even number of bytes before others
 paired : (first n half : ℕ) (rest : ℕ → Option ℕ) → n ≡ 2 * half → IsPaired rest → IsPaired (behind first n rest)

@@ -12,8 +12,14 @@ loop-op-init c = record {
   count = omega arith;
   sizes = c.open.ensures.sizes;
   idle = c.open.ensures.idle;
-  stands = (begin c.args.reading.now (store_of c.args.state.now), [], record { mode = refl; count = refl; store = c.open.ensures.store }, refl,
-      c.requires.nests, refl);
+  stands = (
+    begin c.args.reading.now (store_of c.args.state.now),
+    [],
+    record { mode = refl; count = refl; store = c.open.ensures.store },
+    refl,
+    c.requires.nests,
+    refl,
+  );
 }
 
 pub loop-op-preserved : goal.loop-op-preserved

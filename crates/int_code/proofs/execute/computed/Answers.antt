@@ -11,4 +11,4 @@ returns-in-Div-2 c =
     let result = rw (a, b, quotient_is c.args.a c.args.b c.ranges.a c.ranges.b) at (c.wrap16-in-Div-2.ensures.value) in
     let some : c.args.b ≡ pos 0 → ⊥ = λ e. c.if-b-eq0.false (rw (b, e) refl) in
     rw (to_z-of_z w16 c.wrap16-in-Div-2.result (record { sfits = c.wrap16-in-Div-2.type_inv }), c.in-Div-2.is)
-        (divided c.args.a c.args.b c.wrap16-in-Div-2.result some result)
+    (divided c.args.a c.args.b c.wrap16-in-Div-2.result some result)

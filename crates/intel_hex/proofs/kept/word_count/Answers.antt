@@ -12,6 +12,9 @@ loop-address-preserved c =
     let v = c.loop-address.invariant in
     elim c.if-is_some.branch [
       | then-is_some w ↦ (count_more (held c.args.bytes.now) c.loop-address.address _ (sym c.is_some.ensures ∙ w.if-is_some.true) w.count-is, omega arith)
-      | else-is_some w ↦ (count_same (held c.args.bytes.now) c.loop-address.address _ (sym c.is_some.ensures ∙ w.if-is_some.false) (w.count-is ∙ v.0), omega
-          arith)
+      | else-is_some w ↦ (
+        count_same (held c.args.bytes.now) c.loop-address.address _ (sym c.is_some.ensures ∙ w.if-is_some.false) (w.count-is ∙ v.0),
+        omega
+            arith,
+      )
     ]

@@ -17,7 +17,7 @@ returns-then-is_empty-clause-error c =
     is_last (length c.args.text.now) (length c.in-Some.behind.now) c.if-is_long.true (sym c.is_empty.ensures ∙ c.if-is_empty.true) in
     rw c.fault.ensures
     (last_line c.args.target v.0 (is_over FILE_BYTES c.args.text.now) c.loop-bytes.rest.now c.in-Some.bytes.now c.in-Some.behind.now
-        (hex_verdict c.args.target c.args.text.now) c.loop-bytes.line
+    (hex_verdict c.args.target c.args.text.now) c.loop-bytes.line
     v.2 c.in-Some.ensures.line.lines last v.3)
 
 pub returns-in-Some-2-clause-error : goal.returns-in-Some-2-clause-error
@@ -36,7 +36,7 @@ returns-in-Some-2-clause-error c =
     let is = sym (ap (verdict c.args.target v.0) said) ∙ v.2 in
     rw c.fault-in-Some-2.ensures
     (stops c.args.target v.0 (said_of c.in-Some.bytes.now) (sayings long (lines c.in-Some.behind.now)) (hex_verdict c.args.target c.args.text.now)
-        c.loop-bytes.line c.in-Some-2.cause is (sym took.0 ∙ c.in-Some-2.is) v.3)
+    c.loop-bytes.line c.in-Some-2.cause is (sym took.0 ∙ c.in-Some-2.is) v.3)
 
 pub loop-bytes-preserved : goal.loop-bytes-preserved
 loop-bytes-preserved c =
@@ -67,6 +67,6 @@ pub returns-clause-image : goal.returns-clause-image
 returns-clause-image c =
     let v = c.loop-bytes.invariant in
     at_end c.args.target v.0 (is_over FILE_BYTES c.args.text.now) c.loop-bytes.rest.now (hex_verdict c.args.target c.args.text.now)
-        c.loop-bytes.loaded.bytes.items
+    c.loop-bytes.loaded.bytes.items
     v.2 (c.in_default.ensures.none.0 refl) (sym v.1.ended ∙ c.if-not-loaded.false) v.1.bytes
     ∙ ap Ok (ap (λ bytes. image_of c.args.target (held bytes)) (sym c.bytes.ensures) ∙ sym c.in_ok-image.ensures)

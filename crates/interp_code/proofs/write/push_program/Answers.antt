@@ -19,7 +19,7 @@ returns-clause-text c =
     (joined (map line_text (BitCount program.bits ∷ (Code ∷ [])))) (joined (map op_words program.ops)) (codes "end\n")
     c.in_ok-push_head.ensures
     (c.in_ok-push_all_names.ensures.text ∙ ap (λ starts. string_bytes c.push_head.new.text ++ joined (map line_text (name_lines names starts)))
-        c.as_slice.ensures)
+    c.as_slice.ensures)
     c.in_ok-push_sizes.ensures
     (c.in_ok-push_operations.ensures ∙ ap (λ ops. string_bytes c.push_sizes.new.text ++ joined (map op_words ops)) c.as_slice-2.ensures)
     c.in_ok-push_str.ensures.bytes

@@ -15,7 +15,7 @@ returns-then-duty_register-register-clause-value c =
 pub returns-then-duty_register-register-clause-least : goal.returns-then-duty_register-register-clause-least
 returns-then-duty_register-register-clause-least c =
     subst (λ least. (duty : ℕ) → duty < DUTIES → duty_register c.args.setting duty ≡ c.args.register → (duty_register c.args.setting least ≡ c.args.register) ×
-        (least ≤ duty))
+    (least ≤ duty))
     (sym (returns-then-duty_register-register-clause-value c)) (least_passes c.args.setting c.args.register)
 
 pub loop-duty-preserved : goal.loop-duty-preserved
@@ -33,5 +33,5 @@ returns-clause-value c =
 pub returns-clause-least : goal.returns-clause-least
 returns-clause-least c =
     subst (λ least. (duty : ℕ) → duty < DUTIES → duty_register c.args.setting duty ≡ c.args.register → (duty_register c.args.setting least ≡ c.args.register) ×
-        (least ≤ duty))
+    (least ≤ duty))
     (sym (returns-clause-value c)) (least_passes c.args.setting c.args.register)

@@ -12,7 +12,7 @@ returns-in-Header c =
     let some = ap (λ k. eqb k 0) (length-map c.args.words.now (λ t. t.now)) ∙ sym c.is_empty.ensures ∙ c.if-is_empty.false in
     IfOk-weaker c.header_said.result _ _
     (λ said h. h ∙ sym (said_in-header c.args.site c.args.number c.args.line.now (map (λ t. t.now) c.args.words.now) c.in-Header.is c.requires some))
-        c.header_said.ensures
+    c.header_said.ensures
 
 pub returns-in-First : goal.returns-in-First
 returns-in-First c = c.first_said.ensures c.args.number ∙ sym (ap (λ x. said_in x c.args.number c.args.line.now) c.in-First.is)

@@ -12,7 +12,7 @@ returns-then-not-same_names-clause-declined g c = record {
     λ y.
         let b = c.in-Ok.ensures.bytes y in
         other_project (g.F.Files.held c.args.files.now) c.args.name.now c.deref.result.now c.args.names.now c.in-Ok-read_interp.said
-            (b.0, b.1, c.deref.ensures.value ∙ b.2)
+        (b.0, b.1, c.deref.ensures.value ∙ b.2)
         (c.in-Ok-read_interp.ensures.program, c.in-Ok-read_interp.ensures.within)
         (λ same. let yes = c.same_names.ensures.1 same in cc),
   ));
@@ -22,7 +22,7 @@ pub returns-in-Ok-read_interp-clause-holds : goal.returns-in-Ok-read_interp-clau
 returns-in-Ok-read_interp-clause-holds g c y =
     let b = c.in-Ok.ensures.bytes y in
     holds_code (g.F.Files.held c.args.files.now) c.args.name.now c.deref.result.now c.args.names.now c.in-Ok-read_interp.said
-        (b.0, b.1, c.deref.ensures.value ∙ b.2)
+    (b.0, b.1, c.deref.ensures.value ∙ b.2)
     (c.in-Ok-read_interp.ensures.program, c.in-Ok-read_interp.ensures.within)
     (c.same_names.ensures.0 cc)
 
@@ -39,7 +39,7 @@ returns-in-Err-Fault-clause-declined g c = record {
     λ y.
         let b = c.in-Ok.ensures.bytes y in
         refused_code (g.F.Files.held c.args.files.now) c.args.name.now c.deref.result.now c.args.names.now c.in-Err-Fault.fault.line
-            (b.0, b.1, c.deref.ensures.value ∙ b.2)
+        (b.0, b.1, c.deref.ensures.value ∙ b.2)
         (subst (λ (e : InterpError). IsCaused c.deref.result.now e) c.in-Err-Fault.field-0-is c.in-Err-Fault.ensures.error),
   ));
 }

@@ -42,7 +42,7 @@ returns-in_err-said-clause-declined g c =
     let up = err_from_is_err_and c.from_residual-in_err-said.result c.from_residual-in_err-said.ensures.1 in
     rw (up.1, up.2)
     (declined_behind F.tells (HeldAnswers (CodeAnswers n (λ a. ⊥)) (mid c.args.file.now)) (Expected (Replay c.args.source.now c.args.file.now c.args.trace.now)
-        old) (F.counts c.args.files.now) (F.counts c.take_project.new.files) (F.counts c.take_code.new.files) old mid e
+    old) (F.counts c.args.files.now) (F.counts c.take_project.new.files) (F.counts c.take_code.new.files) old mid e
     c.take_project.ensures.only
     (λ y t h. project_on (ReplayAnswers old c.args.file.now c.args.trace.now) old c.args.source.now p t (c.in_ok-legal.ensures.holds y)
     (file_more p next (old c.args.file.now) t (held_target old c.args.source.now p machine (c.in_ok-legal.ensures.holds y))
@@ -65,16 +65,16 @@ returns-in_err-trace-clause-declined g c =
     let named_again : m ≡ names_of p.rungs = c.names-2.ensures ∙ c.in_ok-legal.ensures.judged.can.names in
     let next : List ℕ → Status → Type 0 = λ code. HeldAnswers (TraceAnswers (names_of p.rungs) (RunAnswers p code)) (old c.args.trace.now) in
     let reads = both_read F.tells (F.counts c.args.files.now) (F.counts c.take_project.new.files) (F.counts c.take_code.new.files) old mid last
-        c.take_project.ensures.only c.take_code.ensures.only in
+    c.take_project.ensures.only c.take_code.ensures.only in
     let e = c.in_err-trace.field-0.0 in
     let up = err_from_is_err_and c.from_residual-in_err-trace.result c.from_residual-in_err-trace.ensures.1 in
     rw (up.1, up.2)
     (declined_behind F.tells (HeldAnswers (TraceAnswers m NoRun) (last c.args.trace.now)) (Expected (Replay c.args.source.now c.args.file.now c.args.trace.now)
-        old) (F.counts c.args.files.now) (F.counts c.take_code.new.files) (F.counts c.take_trace.new.files) old last e
+    old) (F.counts c.args.files.now) (F.counts c.take_code.new.files) (F.counts c.take_trace.new.files) old last e
     reads
     (λ y t h.
     let said = code_before old mid c.args.file.now n (names_of p.rungs) c.in_ok-said.said.program (c.take_project.ensures.only.same y) named
-        (c.in_ok-said.ensures.holds y) in
+    (c.in_ok-said.ensures.holds y) in
     project_on (ReplayAnswers old c.args.file.now c.args.trace.now) old c.args.source.now p t (c.in_ok-legal.ensures.holds y)
     (file_taken p next old c.args.file.now c.in_ok-said.said.program t (held_target old c.args.source.now p machine (c.in_ok-legal.ensures.holds y)) said
     (trace_more (names_of p.rungs) (RunAnswers p said.text) (old c.args.trace.now) t
@@ -96,9 +96,9 @@ returns-in-Ok-clause-replayed g c y =
     let program = c.in_ok-said.said.program in
     let steps = c.in_ok-trace.trace in
     let reads = both_read F.tells (F.counts c.args.files.now) (F.counts c.take_project.new.files) (F.counts c.take_code.new.files) old mid last
-        c.take_project.ensures.only c.take_code.ensures.only in
+    c.take_project.ensures.only c.take_code.ensures.only in
     let said = code_before old mid c.args.file.now c.names.result.now (names_of p.rungs) program (c.take_project.ensures.only.same y) (c.names.ensures ∙ named)
-        (c.in_ok-said.ensures.holds y) in
+    (c.in_ok-said.ensures.holds y) in
     record {
       project = p;
       source = c.in_ok-legal.ensures.holds y;

@@ -8,7 +8,7 @@ pub returns-in-Ok-read_trace-clause-holds : goal.returns-in-Ok-read_trace-clause
 returns-in-Ok-read_trace-clause-holds g c y =
     let b = c.in-Ok.ensures.bytes y in
     holds_trace (g.F.Files.held c.args.files.now) c.args.name.now c.deref.result.now c.args.names.now c.in-Ok-read_trace.trace
-        (b.0, b.1, c.deref.ensures.value ∙ b.2) c.in-Ok-read_trace.ensures.trace
+    (b.0, b.1, c.deref.ensures.value ∙ b.2) c.in-Ok-read_trace.ensures.trace
 
 pub returns-in-Err-Fault-clause-only : goal.returns-in-Err-Fault-clause-only
 returns-in-Err-Fault-clause-only g c =
@@ -23,7 +23,7 @@ returns-in-Err-Fault-clause-declined g c = record {
     λ y.
         let b = c.in-Ok.ensures.bytes y in
         refused_trace (g.F.Files.held c.args.files.now) c.args.name.now c.deref.result.now c.args.names.now c.in-Err-Fault.line
-            (b.0, b.1, c.deref.ensures.value ∙ b.2)
+        (b.0, b.1, c.deref.ensures.value ∙ b.2)
         (subst (λ (e : TraceError). IsCaused c.args.names.now c.deref.result.now e) c.in-Err-Fault.field-0-is c.in-Err-Fault.ensures.error),
   ));
 }

@@ -35,4 +35,4 @@ returns-in-Err-clause-refused g c =
     (λ y. (F.left c.read.new.self, fed.3 y ∙ ap (λ rest. fed.0 ++ rest) (c.in_ok-n.ensures.bytes y) ∙ sym (append_assoc fed.0 piece (F.left c.read.new.self))))
     short
     (subst (λ (p : List ℕ). IsCause (early_fault (fed.0 ++ p)) c.in-Err.e) (take-append-le c.in_ok-n.n c.read.new.buf _ c.in_ok-n.ensures.bound)
-        (c.in-Err.ensures.refused fed.0 fed.2)))
+    (c.in-Err.ensures.refused fed.0 fed.2)))

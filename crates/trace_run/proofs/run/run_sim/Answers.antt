@@ -44,7 +44,7 @@ loop-step-preserved g c =
       few = omega (arith, passed, c.loop-step.invariant.few, rw (← c.step-item.is) at sum);
       lines = λ t. rw (moved, same.program)
           (so_far_more c.args.duty names sim.program (record { passed = 0; store = state_of sim }) (readings steps) (point_of now)
-              (replicate s.times s.reading) (readings (drop (k + 1) steps))
+          (replicate s.times s.reading) (readings (drop (k + 1) steps))
           (o.written c.args.out.now) (o.written c.loop-step.out) (o.written c.step.new.out)
           (rw (step_left steps k s c.loop-step-test.true c.step-item.is) at (c.loop-step.invariant.lines t))
           (rw (same.duty, same.names, same.program) at (c.in_ok-step.ensures.whole t)));
@@ -58,7 +58,7 @@ returns-clause-whole g c = λ t.
     let steps = c.as_slice-step-items.result.now in
     rw (← c.as_slice-step-items.ensures)
     (so_far_end c.args.duty names sim.program (record { passed = 0; store = state_of sim }) (readings steps) (point_of c.loop-step.run)
-        (o.written c.args.out.now) (o.written c.loop-step.out)
+    (o.written c.args.out.now) (o.written c.loop-step.out)
     (rw (none_left steps c.loop-step.step-index c.loop-step-test.false) at (c.loop-step.invariant.lines t)))
 
 pub returns-clause-part : goal.returns-clause-part

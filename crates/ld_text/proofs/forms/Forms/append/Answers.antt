@@ -14,5 +14,5 @@ returns c =
     let place : c.len-last.result - 1 ≡ length c.self.inside.items.items - 1 = search rules in
     on_ok_weaker c.push.result
     (λ h. appended c.self.inside.items.items c.args.self.now (c.len-last.result - 1) c.index_mut.result.now c.args.node c.push.new.self c.self.view_is
-        c.requires place c.index_mut.ensures.value h)
+    c.requires place c.index_mut.ensures.value h)
     c.push.ensures.ok

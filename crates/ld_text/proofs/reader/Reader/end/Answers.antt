@@ -6,12 +6,12 @@ use Rattle.ld_text.proofs.reader.Reader.end.Goals as goal
 pub returns-in-Ok-clause-read : goal.returns-in-Ok-clause-read
 returns-in-Ok-clause-read c text h =
     (ends_well c.args.self.first (mind_of c.args.self) text c.finish.result c.in-Ok.target c.project.result c.in-Ok.is h c.finish.ensures.failed
-        (λ n. c.in-Ok.ensures.accepts n ∙ ap Accepts (sym c.project.ensures))).0
+    (λ n. c.in-Ok.ensures.accepts n ∙ ap Accepts (sym c.project.ensures))).0
 
 pub returns-in-Ok-clause-within : goal.returns-in-Ok-clause-within
 returns-in-Ok-clause-within c text h =
     (ends_well c.args.self.first (mind_of c.args.self) text c.finish.result c.in-Ok.target c.project.result c.in-Ok.is h c.finish.ensures.failed
-        (λ n. c.in-Ok.ensures.accepts n ∙ ap Accepts (sym c.project.ensures))).1
+    (λ n. c.in-Ok.ensures.accepts n ∙ ap Accepts (sym c.project.ensures))).1
 
 pub returns-in-Err-clause-refused : goal.returns-in-Err-clause-refused
 returns-in-Err-clause-refused c text h =

@@ -33,8 +33,12 @@ loop-preserved g c =
     let one = one_left r times k c.loop-test.true in
     let moved : point_of c.cycle.new.self ≡ behind program (point_of now) (r ∷ []) = rw (same.program) at (c.in_ok-cycle.ensures.point) in
     record {
-      same = record { names = c.cycle.ensures.same.names ∙ same.names; duty = c.cycle.ensures.same.duty ∙ same.duty; program = c.cycle.ensures.same.program ∙
-          same.program };
+      same = record {
+        names = c.cycle.ensures.same.names ∙ same.names;
+        duty = c.cycle.ensures.same.duty ∙ same.duty;
+        program = c.cycle.ensures.same.program ∙
+            same.program;
+      };
       later = search rules;
       few = omega (arith, ap (λ q. q.passed) moved, c.loop.invariant.few, c.loop-test.true);
       point = rw moved (sym (behind_append program (point_of now) (r ∷ []) left) ∙ (rw one at (c.loop.invariant.point)));
