@@ -87,7 +87,8 @@ wired_at target w p x e = let f : Some x.place ≡ Some p = sym x.is ∙ e in cc
 is_wire_scratch : (target : Target) → IsChip target → (w : ℕ) → w < 48 → (x : WirePlace target w) → is_scratch target x.place.address ≡ true
 is_wire_scratch F628 c w h x = ap (λ p. is_scratch F628 p.address) (wired_at F628 w (pic_wire w) x (wire_found w (pic_wire w) h)) ∙ pic_scratch_cell w h
 is_wire_scratch F877 c w h x = ap (λ p. is_scratch F877 p.address) (wired_at F877 w (pic_wire w) x (wire_found w (pic_wire w) h)) ∙ pic_scratch_cell w h
-is_wire_scratch Mega16 c w h x = ap (λ p. is_scratch Mega16 p.address) (wired_at Mega16 w (avr_wire w) x (wire_found w (avr_wire w) h)) ∙ avr_scratch_cell w h (avr_view w)
+is_wire_scratch Mega16 c w h x = ap (λ p. is_scratch Mega16 p.address) (wired_at Mega16 w (avr_wire w) x (wire_found w (avr_wire w) h)) ∙ avr_scratch_cell w h
+    (avr_view w)
 is_wire_scratch Interp c w h x = absurd (cc)
 is_wire_scratch AnsiC c w h x = absurd (cc)
 
@@ -121,7 +122,8 @@ module _ (o : Layout) (c : IsChip o.plan.target) (room : ram_need o.plan.sizes �
   source (opsource.X k) h = any_at (λ p. p.port == (pin_at o.inputs k).port && p.bit == (pin_at o.inputs k).bit) o.inputs k h (same_pin (pin_at o.inputs k))
   source (opsource.Y k) h = any_at (λ p. p.port == (pin_at o.outputs k).port && p.bit == (pin_at o.outputs k).bit) o.outputs k h (same_pin (pin_at o.outputs k))
 
-  two : (u v : ℕ) → u < o.plan.sizes.variables → v < o.plan.sizes.variables → is_word (outfit_of o) (word_cell o u) && is_word (outfit_of o) (word_cell o v) ≡ true
+  two : (u v : ℕ) → u < o.plan.sizes.variables → v < o.plan.sizes.variables → is_word (outfit_of o) (word_cell o u) && is_word (outfit_of o) (word_cell o v) ≡
+      true
   two u v h g = and_both _ _ (word u h) (word v g)
 
   one : (u : ℕ) → u < o.plan.sizes.variables → is_word (outfit_of o) (word_cell o u) && true ≡ true
@@ -174,27 +176,35 @@ module _ (o : Layout) (c : IsChip o.plan.target) (room : ram_need o.plan.sizes �
   list (Dec v) l top built h = (word v h, tt)
   list op l top built h = absurd (cc)
 
-  joined_by : (x : Option Guard) (one_list : Guard → List Paced) (other : List Paced) → ((g : Guard) → x ≡ Some g → Every Admits (one_list g)) → Every Admits other → Every Admits (joined x one_list other)
+  joined_by : (x : Option Guard) (one_list : Guard → List Paced) (other : List Paced) → ((g : Guard) → x ≡ Some g → Every Admits (one_list g)) →
+      Every Admits other → Every Admits (joined x one_list other)
   joined_by (Some g) one_list other h f = h g refl
   joined_by None one_list other h f = f
 
-  lists : (passed : ℕ) (ops : List IntOp) (k : ℕ) (labels : List ℕ) → All (λ op. is_built op ≡ true) ops → All (IsInRange (room_of o)) ops → Every Admits (lists_of o passed ops k labels)
+  lists : (passed : ℕ) (ops : List IntOp) (k : ℕ) (labels : List ℕ) → All (λ op. is_built op ≡ true) ops → All (IsInRange (room_of o)) ops →
+      Every Admits (lists_of o passed ops k labels)
   lists zero [] k labels built range = tt
   lists (suc passed) [] k labels built range = tt
-  lists (suc passed) (op ∷ ops) k labels built range = lists passed ops (suc k) labels (All-tail (λ x. is_built x ≡ true) op ops built) (All-tail (IsInRange (room_of o)) op ops range)
+  lists (suc passed) (op ∷ ops) k labels built range = lists passed ops (suc k) labels (All-tail (λ x. is_built x ≡ true) op ops built)
+      (All-tail (IsInRange (room_of o)) op ops range)
   lists zero (op ∷ ops) k labels built range =
       joined_by (guard_of (op ∷ ops)) (λ g. put_where o g ∷ lists_of o 2 ops (suc k) labels)
       (list_of o op (label_of k) (top_of labels) ++ lists_of o zero ops (suc k) (labels_behind (shape_of op) k labels))
-      (λ g e. let places = guard_ranges o (op ∷ ops) g e range in
-      (and_both _ _ (source g.from places.0) (dest g.to places.1), lists 2 ops (suc k) labels (All-tail (λ x. is_built x ≡ true) op ops built) (All-tail (IsInRange (room_of o)) op ops range)))
+      (λ g e. let places = guard_ranges o (op ∷ ops) g e range in (
+        and_both _ _ (source g.from places.0) (dest g.to places.1),
+        lists 2 ops (suc k) labels (All-tail (λ x. is_built x ≡ true) op ops built)
+            (All-tail (IsInRange (room_of o)) op ops range),
+      ))
       (every_on Admits (list_of o op (label_of k) (top_of labels)) (lists_of o zero ops (suc k) (labels_behind (shape_of op) k labels))
       (list op (label_of k) (top_of labels) (All-head (λ x. is_built x ≡ true) op ops built) (All-head (IsInRange (room_of o)) op ops range))
-      (lists zero ops (suc k) (labels_behind (shape_of op) k labels) (All-tail (λ x. is_built x ≡ true) op ops built) (All-tail (IsInRange (room_of o)) op ops range)))
+      (lists zero ops (suc k) (labels_behind (shape_of op) k labels) (All-tail (λ x. is_built x ≡ true) op ops built) (All-tail (IsInRange (room_of o)) op ops
+      range)))
 
   starts : (ns : List ℤ) (v : ℕ) → v + length ns ≤ o.plan.sizes.variables → Every Admits (start_values o ns v)
   starts [] v h = tt
   starts (n ∷ ns) v h =
-      either_list (int_eq n (pos 0)) (start_values o ns (suc v)) (booted (move o v (number n)) ∷ start_values o ns (suc v)) (starts ns (suc v) (omega (arith, h)))
+      either_list (int_eq n (pos 0)) (start_values o ns (suc v)) (booted (move o v (number n)) ∷ start_values o ns (suc v))
+      (starts ns (suc v) (omega (arith, h)))
       (one v (omega (arith, h)), starts ns (suc v) (omega (arith, h)))
 
   pub admitted : (p : IntProgram) → CanPlace o p → list_all (λ q. admits (outfit_of o) q.prim) (code_of o p) ≡ true

@@ -65,7 +65,8 @@ wipe_on d e k None is w = record {
 }
   where
     by : (i a : ℕ) → i < suc k → ram_address d.target i ≡ Some a → (i ≡ k) ⊎ (i ≡ k → ⊥) → cell e a ≡ 0
-    by i a lt h (inl same) = let f : ram_address e.target k ≡ Some a = ap (λ t. ram_address t k) w.target ∙ ap (ram_address d.target) (sym same) ∙ h in absurd (cc)
+    by i a lt h (inl same) = let f : ram_address e.target k ≡ Some a = ap (λ t. ram_address t k) w.target ∙ ap (ram_address d.target) (sym same) ∙ h in absurd
+        (cc)
     by i a lt h (inr other) = w.zeros i a (omega (arith, lt, other)) h
 wipe_on d e k (Some x) is w = record {
   target = w.target;
@@ -124,7 +125,8 @@ first_store o d eeprom = record {
 }
 
 -- the machine in front of the start values of variables from number v on
-record Started (code rest : List Paced) (o : Layout) (p : IntProgram) (r : Reading) (eeprom : ℕ → ℕ) (ns : List ℤ) (v at : ℕ) (s : Bytes) (t : int.Store) : Type 0 where
+record Started (code rest : List Paced) (o : Layout) (p : IntProgram) (r : Reading) (eeprom : ℕ → ℕ) (ns : List ℤ) (v at : ℕ) (s : Bytes) (t : int.Store) :
+    Type 0 where
   ahead : drop at code ≡ start_values o ns v ++ polling (Label 0) ∷ rest
   is_at : s.place ≡ at
   closed : s.open_call ≡ None
@@ -152,8 +154,10 @@ module _ (code rest : List Paced) (o : Layout) (p : IntProgram) (r : Reading) (e
   last_value v at s t b = record {
     t = t;
     is = record { bits = b.bits; outputs = b.outputs; numbers = λ u h. by u (nat_le v u) refl; devices = b.devices };
-    reaches = λ Goal g. go code Goal (suc at) s (polling (Label 0)) (ap (slice_get code) b.is_at ∙ here code at (polling (Label 0)) rest b.ahead) refl (tt, tt) refl (omega arith)
-        (arrive code Goal (suc at) (next_with s (plain s.store)) (g (next_with s (plain s.store)) (ap suc b.is_at) b.closed (any_flag o r apart pins s.store t None b.good)) (ap suc b.is_at));
+    reaches = λ Goal g. go code Goal (suc at) s (polling (Label 0)) (ap (slice_get code) b.is_at ∙ here code at (polling (Label 0)) rest b.ahead) refl (tt, tt)
+        refl (omega arith)
+        (arrive code Goal (suc at) (next_with s (plain s.store)) (g (next_with s (plain s.store)) (ap suc b.is_at) b.closed
+        (any_flag o r apart pins s.store t None b.good)) (ap suc b.is_at));
   }
     where
       by : (u : ℕ) (c : Bool) → nat_le v u ≡ c → t.number u ≡ slice_index_or p.starts u (pos 0)
@@ -192,7 +196,8 @@ module _ (code rest : List Paced) (o : Layout) (p : IntProgram) (r : Reading) (e
     where
       by : (u : ℕ) → u < suc v → (u ≡ v) ⊎ (u ≡ v → ⊥) → t.number u ≡ slice_index_or p.starts u (pos 0)
       by u h (inl same) =
-          b.above u (omega (arith, same)) ∙ sym ((Decides-int_eq n (pos 0)).0 e) ∙ first_left n ns v at s t b ∙ ap (λ j. slice_index_or p.starts j (pos 0)) (sym same)
+          b.above u (omega (arith, same)) ∙ sym ((Decides-int_eq n (pos 0)).0 e) ∙ first_left n ns v at s t b ∙ ap (λ j. slice_index_or p.starts j (pos 0))
+          (sym same)
       by u h (inr other) = b.below u (omega (arith, h, other))
   value_by n ns v at s t false e b ahead rec =
       let move = booted (move o v (number n)) in
@@ -201,7 +206,8 @@ module _ (code rest : List Paced) (o : Layout) (p : IntProgram) (r : Reading) (e
       let d = with_word s.store (word_cell o v) (word_from s.store (number n)) in
       let s1 = next_with s (plain d) in
       let t1 = int.with_number t v n in
-      let good1 = any_flag o r apart pins d t1 None (word_written o r apart pins s.store t v n (word_from s.store (number n)) lt (number_read s.store n (All-head IsNumber n ns b.numbers)) b.good) in
+      let good1 = any_flag o r apart pins d t1 None (word_written o r apart pins s.store t v n (word_from s.store (number n)) lt
+      (number_read s.store n (All-head IsNumber n ns b.numbers)) b.good) in
       let next = rec (suc at) s1 t1 (record {
         ahead = behind code at move behind_it ahead;
         is_at = ap suc b.is_at;
@@ -219,7 +225,8 @@ module _ (code rest : List Paced) (o : Layout) (p : IntProgram) (r : Reading) (e
       record {
         t = next.t;
         is = next.is;
-        reaches = λ Goal g. go code Goal _ s move (ap (slice_get code) b.is_at ∙ here code at move behind_it ahead) refl (tt, tt) refl (omega arith) (next.reaches Goal g);
+        reaches = λ Goal g. go code Goal _ s move (ap (slice_get code) b.is_at ∙ here code at move behind_it ahead) refl (tt, tt) refl (omega arith)
+            (next.reaches Goal g);
       }
     where
       by : (u : ℕ) → u < suc v → (c : Bool) → nat_eq v u ≡ c → (if c then n else t.number u) ≡ slice_index_or p.starts u (pos 0)
@@ -259,10 +266,13 @@ module _ (o : Layout) (c : IsChip o.plan.target) (room : ram_need o.plan.sizes �
   first_bits : (k : ℕ) → k < o.plan.sizes.kept_bits → bit_of (cell started_store (bit_cell o k).address) (bit_cell o k).bit ≡ false
   first_bits k h = ap (λ n. bit_of n (bit_cell o k).bit) (zeroed.bits k h) ∙ no_bit (bit_cell o k).bit
 
-  first_outputs : d.latches ≡ 0 ∷ 0 ∷ 0 ∷ 0 ∷ 0 ∷ [] → (k : ℕ) → k < length o.outputs → bit_of (slice_index started_store.latches (pin_at o.outputs k).port) (pin_at o.outputs k).bit ≡ false
-  first_outputs e k h = ap (λ xs. bit_of (slice_index xs (pin_at o.outputs k).port) (pin_at o.outputs k).bit) (wiped.latches ∙ e) ∙ none_high (pin_at o.outputs k).port (pin_at o.outputs k).bit
+  first_outputs : d.latches ≡ 0 ∷ 0 ∷ 0 ∷ 0 ∷ 0 ∷ [] → (k : ℕ) → k < length o.outputs → bit_of (slice_index started_store.latches (pin_at o.outputs k).port)
+      (pin_at o.outputs k).bit ≡ false
+  first_outputs e k h = ap (λ xs. bit_of (slice_index xs (pin_at o.outputs k).port) (pin_at o.outputs k).bit) (wiped.latches ∙ e) ∙ none_high
+      (pin_at o.outputs k).port (pin_at o.outputs k).bit
 
-  first_good : length d.cells ≡ 1120 → d.latches ≡ 0 ∷ 0 ∷ 0 ∷ 0 ∷ 0 ∷ [] → d.converting ≡ false → Good o (seen o started_store.reading) started_store (first_store o started_store (slice_index d.eeprom))
+  first_good : length d.cells ≡ 1120 → d.latches ≡ 0 ∷ 0 ∷ 0 ∷ 0 ∷ 0 ∷ [] → d.converting ≡ false → Good o (seen o started_store.reading) started_store
+      (first_store o started_store (slice_index d.eeprom))
   first_good cells latches shown = record {
     stands = first_stands;
     levels = seen_levels o started_store.reading.levels;
@@ -271,7 +281,8 @@ module _ (o : Layout) (c : IsChip o.plan.target) (room : ram_need o.plan.sizes �
     shown = wiped.shown ∙ shown;
   }
 
-pub booted_start : (code rest : List Paced) (o : Layout) (p : IntProgram) (can : CanPlace o p) (c : IsChip o.plan.target) (room : ram_need o.plan.sizes ≤ ram_size o.plan.target) (apart : Apart o) (s : Bytes) (fresh : IsFresh o s) →
+pub booted_start : (code rest : List Paced) (o : Layout) (p : IntProgram) (can : CanPlace o p) (c : IsChip o.plan.target)
+    (room : ram_need o.plan.sizes ≤ ram_size o.plan.target) (apart : Apart o) (s : Bytes) (fresh : IsFresh o s) →
     code ≡ booted (Start (ram_need o.plan.sizes)) ∷ (start_values o p.starts 0 ++ polling (Label 0) ∷ rest) →
     Booted code o p (seen o (started_store o c room s.store fresh.target).reading) (slice_index s.store.eeprom) (suc (along 1 (start_values o p.starts 0))) s
 booted_start code rest o p can c room apart s fresh whole =
@@ -279,7 +290,8 @@ booted_start code rest o p can c room apart s fresh whole =
     let first = booted (Start (ram_need o.plan.sizes)) in
     let after = start_values o p.starts 0 ++ polling (Label 0) ∷ rest in
     let s1 = record (next_with s d) { started = true } in
-    let next = values_on code rest o p (seen o d.reading) (slice_index s.store.eeprom) apart can.pins p.starts 0 1 s1 (first_store o d (slice_index s.store.eeprom)) (record {
+    let next = values_on code rest o p (seen o d.reading) (slice_index s.store.eeprom) apart can.pins p.starts 0 1 s1
+    (first_store o d (slice_index s.store.eeprom)) (record {
       ahead = behind code 0 first after whole;
       is_at = ap suc fresh.place;
       closed = fresh.closed;
@@ -296,5 +308,6 @@ booted_start code rest o p can c room apart s fresh whole =
     record {
       t = next.t;
       is = next.is;
-      reaches = λ Goal g. go code Goal (suc (along 1 (start_values o p.starts 0))) s first (ap (slice_get code) fresh.place ∙ here code 0 first after whole) refl (tt, tt) refl (omega arith) (next.reaches Goal g);
+      reaches = λ Goal g. go code Goal (suc (along 1 (start_values o p.starts 0))) s first (ap (slice_get code) fresh.place ∙ here code 0 first after whole)
+          refl (tt, tt) refl (omega arith) (next.reaches Goal g);
     }

@@ -84,7 +84,8 @@ list_turns o (Inc v) l top = (refl, tt)
 list_turns o (Dec v) l top = (refl, tt)
 list_turns o op l top = tt
 
-every_joined : (P : Paced → Type 0) (x : Option Guard) (one : Guard → List Paced) (list : List Paced) → ((g : Guard) → Every P (one g)) → Every P list → Every P (joined x one list)
+every_joined : (P : Paced → Type 0) (x : Option Guard) (one : Guard → List Paced) (list : List Paced) → ((g : Guard) → Every P (one g)) → Every P list →
+    Every P (joined x one list)
 every_joined P (Some g) one list h f = h g
 every_joined P None one list h f = f
 
@@ -96,7 +97,8 @@ lists_turn o zero (op ∷ ops) k labels =
     every_joined TurnsOnce (guard_of (op ∷ ops)) (λ g. put_where o g ∷ lists_of o 2 ops (suc k) labels)
     (list_of o op (label_of k) (top_of labels) ++ lists_of o zero ops (suc k) (labels_behind (shape_of op) k labels))
     (λ g. (refl, lists_turn o 2 ops (suc k) labels))
-    (every_on TurnsOnce (list_of o op (label_of k) (top_of labels)) (lists_of o zero ops (suc k) (labels_behind (shape_of op) k labels)) (list_turns o op (label_of k) (top_of labels)) (lists_turn o zero ops (suc k) (labels_behind (shape_of op) k labels)))
+    (every_on TurnsOnce (list_of o op (label_of k) (top_of labels)) (lists_of o zero ops (suc k) (labels_behind (shape_of op) k labels))
+    (list_turns o op (label_of k) (top_of labels)) (lists_turn o zero ops (suc k) (labels_behind (shape_of op) k labels)))
 
 -- the start values are begun in front of the first reading, wait for nothing and have no labels
 pub starts_boot : (o : Layout) (ns : List ℤ) (v : ℕ) → Every BootsOnce (start_values o ns v)
@@ -122,7 +124,8 @@ along_is at (p ∷ ps) =
     (omega (arith, h.0), λ n. let e : suc (n + at) ≡ n + suc at = omega arith in ap (λ m. along m ps) e ∙ h.1 n)
 
 -- of each primitive in front of a place
-pub in_front : (P : Paced → Type 0) (at : ℕ) (front rest : List Paced) (i : ℕ) (p : Paced) → Every P front → at + i < along at front → slice_get (front ++ rest) i ≡ Some p → P p
+pub in_front : (P : Paced → Type 0) (at : ℕ) (front rest : List Paced) (i : ℕ) (p : Paced) → Every P front → at + i < along at front →
+    slice_get (front ++ rest) i ≡ Some p → P p
 in_front P at [] rest i p h lt e = absurd (omega (arith, lt))
 in_front P at (q ∷ front) rest zero p h lt e = let f : q ≡ p = cc in subst P f h.0
 in_front P at (q ∷ front) rest (suc i) p h lt e =

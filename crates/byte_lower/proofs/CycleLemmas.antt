@@ -32,12 +32,14 @@ use Rattle.byte_lower.specs.Stands.{Stands, seen}
 use Rattle.byte_lower.specs.declared.layout.Layout.{Layout}
 
 -- the store behind one cycle more
-behind_on : (ops : List IntOp) (t : int.Store) (rs : List Reading) (k : ℕ) (r : Reading) → slice_get rs k ≡ Some r → store_behind ops t rs (suc k) ≡ (cycle r ops (store_behind ops t rs k)).store
+behind_on : (ops : List IntOp) (t : int.Store) (rs : List Reading) (k : ℕ) (r : Reading) → slice_get rs k ≡ Some r → store_behind ops t rs (suc k) ≡
+    (cycle r ops (store_behind ops t rs k)).store
 behind_on ops t [] k r e = absurd (cc)
 behind_on ops t (x ∷ rs) zero r e = let f : x ≡ r = cc in ap (λ y. (cycle y ops t).store) f
 behind_on ops t (x ∷ rs) (suc k) r e = behind_on ops (cycle x ops t).store rs k r e
 
-seen_at : (o : Layout) (readings : List PinReading) (k : ℕ) (r : PinReading) → slice_get readings k ≡ Some r → slice_get (map (seen o) readings) k ≡ Some (seen o r)
+seen_at : (o : Layout) (readings : List PinReading) (k : ℕ) (r : PinReading) → slice_get readings k ≡ Some r → slice_get (map (seen o) readings) k ≡ Some
+    (seen o r)
 seen_at o [] k r e = absurd (cc)
 seen_at o (x ∷ xs) zero r e = let f : x ≡ r = cc in ap (λ y. Some (seen o y)) f
 seen_at o (x ∷ xs) (suc k) r e = seen_at o xs k r e
@@ -83,7 +85,8 @@ module _ (o : Layout) (p : IntProgram) (can : CanPlace o p) (c : IsChip o.plan.t
   marks : Marks code (suc (suc loop)) 0 []
   marks = record {
     later = λ l h. pass code (suc loop) l (polling (CyclePoll 0)) (lists ++ paced (Jump 0) ∷ []) at_poll_place refl
-        (pass code loop l (polling (Label 0)) (polling (CyclePoll 0) ∷ (lists ++ paced (Jump 0) ∷ [])) at_loop (other_label 0 l (λ e. omega (arith, e, h))) (ahead_loop l));
+        (pass code loop l (polling (Label 0)) (polling (CyclePoll 0) ∷ (lists ++ paced (Jump 0) ∷ [])) at_loop (other_label 0 l (λ e. omega (arith, e, h)))
+        (ahead_loop l));
     ahead = tt;
     falls = tt;
   }
@@ -92,12 +95,14 @@ module _ (o : Layout) (p : IntProgram) (can : CanPlace o p) (c : IsChip o.plan.t
   boots_once i q e le =
       let head = polling (Label 0) ∷ polling (CyclePoll 0) ∷ [] in
       let same : code ≡ (front ++ head) ++ (lists ++ paced (Jump 0) ∷ []) = sym (append_assoc front head (lists ++ paced (Jump 0) ∷ [])) in
-      in_front BootsOnce 0 (front ++ head) (lists ++ paced (Jump 0) ∷ []) i q (every_on BootsOnce front head (refl, starts_boot o p.starts 0) (refl, (refl, tt)))
+      in_front BootsOnce 0 (front ++ head) (lists ++ paced (Jump 0) ∷ []) i q (every_on BootsOnce front head (refl, starts_boot o p.starts 0)
+      (refl, (refl, tt)))
       (omega (arith, along_on 0 front head, le)) (ap (λ x. slice_get x i) (sym same) ∙ e)
 
   turns_once : (i : ℕ) (q : Paced) → slice_get code i ≡ Some q → loop ≤ i → q.turns ≡ 1
   turns_once i q e le =
-      from_place TurnsOnce code loop i q (subst (Every TurnsOnce) (sym at_loop) (refl, (refl, every_on TurnsOnce lists (paced (Jump 0) ∷ []) (lists_turn o 0 p.ops 0 []) (refl, tt)))) le e
+      from_place TurnsOnce code loop i q (subst (Every TurnsOnce) (sym at_loop)
+      (refl, (refl, every_on TurnsOnce lists (paced (Jump 0) ∷ []) (lists_turn o 0 p.ops 0 []) (refl, tt)))) le e
 
   polls_turn : (i : ℕ) (q : Paced) → slice_get code i ≡ Some q → table.shape_of q.prim ≡ AtPoll → 1 ≤ q.turns
   polls_turn i q e poll = by (nat_le loop i) refl
@@ -106,7 +111,8 @@ module _ (o : Layout) (p : IntProgram) (can : CanPlace o p) (c : IsChip o.plan.t
       by true f = omega (arith, turns_once i q e (grind (arith, nat_tests, f)))
       by false f =
           let lt : i < loop = grind (arith, nat_tests, f) in
-          absurd (in_front IsNoPoll 0 front (polling (Label 0) ∷ polling (CyclePoll 0) ∷ (lists ++ paced (Jump 0) ∷ [])) i q ((λ x. absurd (cc x)), starts_wait o p.starts 0) (omega (arith, lt)) e poll)
+          absurd (in_front IsNoPoll 0 front (polling (Label 0) ∷ polling (CyclePoll 0) ∷ (lists ++ paced (Jump 0) ∷ [])) i q
+          ((λ x. absurd (cc x)), starts_wait o p.starts 0) (omega (arith, lt)) e poll)
 
   module _ (readings : List PinReading) (t : int.Store) where
     -- at the poll, after k readings
@@ -122,7 +128,13 @@ module _ (o : Layout) (p : IntProgram) (can : CanPlace o p) (c : IsChip o.plan.t
     silent k = []
 
     polls_at : (k : ℕ) (s : Bytes) → AtCycle k s → Polls code readings AtCycle silent s
-    polls_at k s h = record { p = polling (CyclePoll 0); at = ap (slice_get code) h.is_at ∙ here code (suc loop) (polling (CyclePoll 0)) (lists ++ paced (Jump 0) ∷ []) at_poll_place; polls = refl; fits = (tt, tt) }
+    polls_at k s h = record {
+      p = polling (CyclePoll 0);
+      at = ap (slice_get code) h.is_at ∙ here code (suc loop) (polling (CyclePoll 0))
+          (lists ++ paced (Jump 0) ∷ []) at_poll_place;
+      polls = refl;
+      fits = (tt, tt);
+    }
 
     -- the places that the jump back begins
     abbrev back : List ℕ
@@ -143,7 +155,8 @@ module _ (o : Layout) (p : IntProgram) (can : CanPlace o p) (c : IsChip o.plan.t
 
       walked : Reaches code AtJump last taken
       walked =
-          walk code o (seen o r) (places_apart o c room) can.pins AtJump last ended (paced (Jump 0) ∷ []) (λ e shut good place. (place, shut, good)) p.ops 0 (suc (suc loop)) [] [] (begin (seen o r) store_k) taken
+          walk code o (seen o r) (places_apart o c room) can.pins AtJump last ended (paced (Jump 0) ∷ []) (λ e shut good place. (place, shut, good)) p.ops 0
+          (suc (suc loop)) [] [] (begin (seen o r) store_k) taken
           (record {
             built = can.built;
             range = can.range;
@@ -170,17 +183,20 @@ module _ (o : Layout) (p : IntProgram) (can : CanPlace o p) (c : IsChip o.plan.t
       goes_back : (e : Bytes) → AtJump e → Way code (AtCycle (suc k)) e back []
       goes_back e g =
           acts (paced (Jump 0)) (ap (slice_get code) g.0 ∙ here code last (paced (Jump 0)) [] at_jump) refl (tt, tt)
-          (acts (polling (Label 0)) (ap (slice_get code) loop_is ∙ here code loop (polling (Label 0)) (polling (CyclePoll 0) ∷ (lists ++ paced (Jump 0) ∷ [])) at_loop) refl (tt, tt)
+          (acts (polling (Label 0)) (ap (slice_get code) loop_is ∙ here code loop (polling (Label 0)) (polling (CyclePoll 0) ∷ (lists ++ paced (Jump 0) ∷ []))
+          at_loop) refl (tt, tt)
           (there (record {
             is_at = ap suc loop_is;
             closed = g.1;
-            stands = subst (Stands o (plain (plain e.store))) (sym (behind_on p.ops t (map (seen o) readings) k (seen o r) (seen_at o readings k r read))) (any_flag o (seen o r) (places_apart o c room) can.pins e.store ended.store None g.2).stands;
+            stands = subst (Stands o (plain (plain e.store))) (sym (behind_on p.ops t (map (seen o) readings) k (seen o r) (seen_at o readings k r read)))
+                (any_flag o (seen o r) (places_apart o c room) can.pins e.store ended.store None g.2).stands;
             cells = g.2.cells;
             latches = g.2.latches;
             shown = g.2.shown;
           })))
 
-      few_by : (i turns : ℕ) (b d : Bool) → nat_le loop i ≡ b → nat_le i (suc loop) ≡ d → (loop ≤ i → turns ≡ 1) → times i (taken.place ∷ walked.begun) + times i back ≤ turns
+      few_by : (i turns : ℕ) (b d : Bool) → nat_le loop i ≡ b → nat_le i (suc loop) ≡ d → (loop ≤ i → turns ≡ 1) → times i (taken.place ∷ walked.begun) + times
+          i back ≤ turns
       few_by i turns true true f g once_only =
           let le : i ≤ suc loop = grind (arith, nat_tests, g) in
           let none = none_before (suc loop) last i (taken.place ∷ walked.begun) (omega (arith, h.is_at), walked.rises) le in
@@ -189,7 +205,8 @@ module _ (o : Layout) (p : IntProgram) (can : CanPlace o p) (c : IsChip o.plan.t
           omega (arith, none, one, turn)
       few_by i turns true false f g once_only =
           let gt : suc loop < i = grind (arith, nat_tests, g) in
-          let none = none_behind (label_place code 0) (suc (label_place code 0)) i (suc (label_place code 0) ∷ []) (omega arith, refl) (omega (arith, loop_is, gt)) in
+          let none = none_behind (label_place code 0) (suc (label_place code 0)) i (suc (label_place code 0) ∷ []) (omega arith, refl)
+          (omega (arith, loop_is, gt)) in
           let one = once taken.place last i walked.begun walked.rises in
           let turn = once_only (grind (arith, nat_tests, f)) in
           omega (arith, none, one, turn)
@@ -203,18 +220,22 @@ module _ (o : Layout) (p : IntProgram) (can : CanPlace o p) (c : IsChip o.plan.t
       turn_at = record {
         begun = walked.begun ++ back;
         way = way_on code AtJump (AtCycle (suc k)) taken walked.begun [] back [] walked.way goes_back;
-        counts = λ i q e. subst (λ n. n ≤ q.turns) (sym (times_on i (taken.place ∷ walked.begun) back)) (few_by i q.turns (nat_le loop i) (nat_le i (suc loop)) refl refl (turns_once i q e));
+        counts = λ i q e. subst (λ n. n ≤ q.turns) (sym (times_on i (taken.place ∷ walked.begun) back)) (few_by i q.turns (nat_le loop i) (nat_le i (suc loop))
+            refl refl (turns_once i q e));
       }
 
     is_poll : (place : ℕ) (q : Paced) → place ≡ suc loop → slice_get code place ≡ Some q → polling (CyclePoll 0) ≡ q
     is_poll place q e h =
         let f : slice_get code (suc loop) ≡ Some q = ap (slice_get code) (sym e) ∙ h in
-        let g : slice_get code (suc loop) ≡ Some (polling (CyclePoll 0)) = here code (suc loop) (polling (CyclePoll 0)) (lists ++ paced (Jump 0) ∷ []) at_poll_place in
+        let g : slice_get code (suc loop) ≡ Some (polling (CyclePoll 0)) = here code (suc loop) (polling (CyclePoll 0)) (lists ++ paced (Jump 0) ∷ [])
+        at_poll_place in
         cc (f, g)
 
-    turn : (k : ℕ) (s : Bytes) (r : PinReading) → AtCycle k s → slice_get readings k ≡ Some r → (q : Paced) → slice_get code s.place ≡ Some q → Segment code readings AtCycle silent (suc k) (polled s (effect q.prim s.store) true r).next
+    turn : (k : ℕ) (s : Bytes) (r : PinReading) → AtCycle k s → slice_get readings k ≡ Some r → (q : Paced) → slice_get code s.place ≡ Some q →
+        Segment code readings AtCycle silent (suc k) (polled s (effect q.prim s.store) true r).next
     turn k s r h read q at =
-        subst (λ x. Segment code readings AtCycle silent (suc k) (polled s (effect x.prim s.store) true r).next) (is_poll s.place q h.is_at at) (turn_at k s r h read)
+        subst (λ x. Segment code readings AtCycle silent (suc k) (polled s (effect x.prim s.store) true r).next) (is_poll s.place q h.is_at at)
+        (turn_at k s r h read)
 
     module _ (s : Bytes) (r : Reading) (fresh : s.place ≡ 0) (reach : Reaches code (AtCycle 0) (suc loop) s) where
       few_boots : (i boot : ℕ) (b : Bool) → nat_le i (suc loop) ≡ b → (i ≤ suc loop → boot ≡ 1) → times i (s.place ∷ reach.begun) ≤ boot
@@ -238,7 +259,14 @@ module _ (o : Layout) (p : IntProgram) (can : CanPlace o p) (c : IsChip o.plan.t
           b.is,
           λ readings answers.
               runs readings b.t s (seen o (started_store o c room s.store fresh.target).reading) fresh.place
-              (b.reaches (AtCycle readings b.t 0) (λ e place shut good. record { is_at = place; closed = shut; stands = good.stands; cells = good.cells; latches = good.latches; shown = good.shown }))
+              (b.reaches (AtCycle readings b.t 0) (λ e place shut good. record {
+                is_at = place;
+                closed = shut;
+                stands = good.stands;
+                cells = good.cells;
+                latches = good.latches;
+                shown = good.shown;
+              }))
               answers,
         );
   }

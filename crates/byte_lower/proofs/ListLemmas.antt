@@ -44,10 +44,12 @@ put_by : (o : Layout) (xs rest : List IntOp) (k : ℕ) (labels : List ℕ) (g : 
     lists_of o 0 xs k labels ≡ put_where o g ∷ lists_of o 2 rest (suc k) labels
 put_by o xs rest k labels g e op f =
     ap (λ ys. lists_of o 0 ys k labels) f
-    ∙ ap (λ x. joined x (λ q. put_where o q ∷ lists_of o 2 rest (suc k) labels) (list_of o op (label_of k) (top_of labels) ++ lists_of o 0 rest (suc k) (labels_behind (shape_of op) k labels)))
+    ∙ ap (λ x. joined x (λ q. put_where o q ∷ lists_of o 2 rest (suc k) labels) (list_of o op (label_of k) (top_of labels) ++ lists_of o 0 rest (suc k)
+    (labels_behind (shape_of op) k labels)))
     (ap guard_of (sym f) ∙ e)
 
-pub put_step : (o : Layout) (ops : List IntOp) (k : ℕ) (labels : List ℕ) (g : Guard) (new old : List Paced) → k < length ops → guard_of (drop k ops) ≡ Some g → new ≡ old ++ put_where o g ∷ [] →
+pub put_step : (o : Layout) (ops : List IntOp) (k : ℕ) (labels : List ℕ) (g : Guard) (new old : List Paced) → k < length ops → guard_of (drop k ops) ≡ Some g →
+    new ≡ old ++ put_where o g ∷ [] →
     new ++ lists_of o 2 (drop (k + 1) ops) (k + 1) labels ≡ old ++ lists_of o 0 (drop k ops) k labels
 put_step o ops k labels g new old h e f =
     let d = some_dropped ops k h in
@@ -57,33 +59,41 @@ put_step o ops k labels g new old h e f =
     ∙ ap (λ xs. old ++ xs) (sym (put_by o (drop k ops) d.1 k labels g e d.0 d.2))
 
 -- and one with a list of its own
-pub list_step : (o : Layout) (ops : List IntOp) (k : ℕ) (op : IntOp) (labels labels1 : List ℕ) (new old : List Paced) → slice_get ops k ≡ Some op → guard_of (drop k ops) ≡ None →
+pub list_step : (o : Layout) (ops : List IntOp) (k : ℕ) (op : IntOp) (labels labels1 : List ℕ) (new old : List Paced) → slice_get ops k ≡ Some op →
+    guard_of (drop k ops) ≡ None →
     new ≡ old ++ list_of o op (k + 1) (top_of labels) → labels1 ≡ labels_behind (shape_of op) k labels →
     new ++ lists_of o 0 (drop (k + 1) ops) (k + 1) labels1 ≡ old ++ lists_of o 0 (drop k ops) k labels
 list_step o ops k op labels labels1 new old at none e f =
     let is = dropped ops k op at in
     let rest = drop (suc k) ops in
     let behind = labels_behind (shape_of op) k labels in
-    ap (λ n. n ++ lists_of o 0 (drop (k + 1) ops) (k + 1) labels1) e ∙ append_assoc old (list_of o op (k + 1) (top_of labels)) (lists_of o 0 (drop (k + 1) ops) (k + 1) labels1)
+    ap (λ n. n ++ lists_of o 0 (drop (k + 1) ops) (k + 1) labels1) e ∙ append_assoc old (list_of o op (k + 1) (top_of labels))
+    (lists_of o 0 (drop (k + 1) ops) (k + 1) labels1)
     ∙ ap (λ xs. old ++ (list_of o op (k + 1) (top_of labels) ++ lists_of o 0 xs (k + 1) labels1)) (dropped_next ops k op rest is)
     ∙ ap (λ ls. old ++ (list_of o op (k + 1) (top_of labels) ++ lists_of o 0 rest (k + 1) ls)) f
     ∙ ap (λ n. old ++ (list_of o op n (top_of labels) ++ lists_of o 0 rest n behind)) (add-one k)
     ∙ ap (λ xs. old ++ xs) (sym (ap (λ ys. lists_of o 0 ys k labels) is
-    ∙ ap (λ x. joined x (λ q. put_where o q ∷ lists_of o 2 rest (suc k) labels) (list_of o op (label_of k) (top_of labels) ++ lists_of o 0 rest (suc k) behind)) (ap guard_of (sym is) ∙ none)))
+    ∙ ap (λ x. joined x (λ q. put_where o q ∷ lists_of o 2 rest (suc k) labels) (list_of o op (label_of k) (top_of labels) ++ lists_of o 0 rest (suc k)
+    behind)) (ap guard_of (sym is) ∙ none)))
 
 -- the bits of such an if are in range
-pub guard_ranges : (o : Layout) (ops : List IntOp) (g : Guard) → guard_of ops ≡ Some g → All (IsInRange (room_of o)) ops → IsSource (room_of o) g.from × IsDest (room_of o) g.to
+pub guard_ranges : (o : Layout) (ops : List IntOp) (g : Guard) → guard_of ops ≡ Some g → All (IsInRange (room_of o)) ops → IsSource (room_of o) g.from × IsDest
+    (room_of o) g.to
 guard_ranges o [] g e h = absurd (cc)
 guard_ranges o (x ∷ []) g e h = absurd (cc)
 guard_ranges o (x ∷ y ∷ []) g e h = absurd (cc)
 guard_ranges o (x ∷ y ∷ z ∷ ops) g e h =
-    let f = guard_facts o (record { inputs = []; analog = []; rx = None; tx_busy = false; ee_busy = false }) x y z g e in
-    (f.source (All-head (IsInRange (room_of o)) x (y ∷ z ∷ ops) h), f.dest (All-head (IsInRange (room_of o)) y (z ∷ ops) (All-tail (IsInRange (room_of o)) x (y ∷ z ∷ ops) h)))
+    let f = guard_facts o (record { inputs = []; analog = []; rx = None; tx_busy = false; ee_busy = false }) x y z g e in (
+      f.source (All-head (IsInRange (room_of o)) x (y ∷ z ∷ ops) h),
+      f.dest (All-head (IsInRange (room_of o)) y (z ∷ ops)
+          (All-tail (IsInRange (room_of o)) x (y ∷ z ∷ ops) h)),
+    )
 
 in_range_from : (o : Layout) (ops : List IntOp) (k : ℕ) → All (IsInRange (room_of o)) ops → All (IsInRange (room_of o)) (drop k ops)
 in_range_from o ops zero h = h
 in_range_from o [] (suc k) h = h
 in_range_from o (x ∷ ops) (suc k) h = in_range_from o ops k (All-tail (IsInRange (room_of o)) x ops h)
 
-pub guard_places : (o : Layout) (ops : List IntOp) (k : ℕ) (g : Guard) → guard_of (drop k ops) ≡ Some g → All (IsInRange (room_of o)) ops → IsSource (room_of o) g.from × IsDest (room_of o) g.to
+pub guard_places : (o : Layout) (ops : List IntOp) (k : ℕ) (g : Guard) → guard_of (drop k ops) ≡ Some g → All (IsInRange (room_of o)) ops →
+    IsSource (room_of o) g.from × IsDest (room_of o) g.to
 guard_places o ops k g e h = guard_ranges o (drop k ops) g e (in_range_from o ops k h)

@@ -28,7 +28,8 @@ record ByteIn (place : ℕ → Option ℕ) (In : ℕ → Type 0) (i : ℕ) : Typ
   is : place i ≡ Some address
   within : In address
 
-byte_in : (first many : ℕ) (rest : ℕ → Option ℕ) (In : ℕ → Type 0) (i : ℕ) → (many ≤ i → ByteIn rest In (i - many)) → ByteIn (from_on first many rest) (InOrIn first many In) i
+byte_in : (first many : ℕ) (rest : ℕ → Option ℕ) (In : ℕ → Type 0) (i : ℕ) → (many ≤ i → ByteIn rest In (i - many)) → ByteIn (from_on first many rest)
+    (InOrIn first many In) i
 byte_in first many rest In i behind = by (nat_lt i many) refl
   where
     by : (b : Bool) → nat_lt i many ≡ b → ByteIn (from_on first many rest) (InOrIn first many In) i
@@ -132,12 +133,15 @@ pub avr_view : (w : ℕ) → AvrWire w
 avr_view w = by (w == 0) refl (nat_lt w 9) refl
   where
     by : (b : Bool) → (w == 0) ≡ b → (c : Bool) → nat_lt w 9 ≡ c → AvrWire w
-    by true e c f = power (grind (arith, nat_tests, e)) (ap (λ b. if b then at_bit 20 0 else if nat_lt w 9 then at_bit (w + 1) 0 else at_bit (10 + (w - 9) / 8) ((w - 9) % 8)) e)
+    by true e c f = power (grind (arith, nat_tests, e)) (ap (λ b. if b then at_bit 20 0 else if nat_lt w 9 then at_bit (w + 1) 0 else at_bit (10 + (w - 9) / 8)
+        ((w - 9) % 8)) e)
     by false e true f =
         let some : 1 ≤ w = grind (arith, nat_tests, e) in
-        alone some (grind (arith, nat_tests, f)) (ap (λ b. if b then at_bit 20 0 else if nat_lt w 9 then at_bit (w + 1) 0 else at_bit (10 + (w - 9) / 8) ((w - 9) % 8)) e ∙ ap (λ b. if b then at_bit (w + 1) 0 else at_bit (10 + (w - 9) / 8) ((w - 9) % 8)) f)
+        alone some (grind (arith, nat_tests, f)) (ap (λ b. if b then at_bit 20 0 else if nat_lt w 9 then at_bit (w + 1) 0 else at_bit (10 + (w - 9) / 8)
+        ((w - 9) % 8)) e ∙ ap (λ b. if b then at_bit (w + 1) 0 else at_bit (10 + (w - 9) / 8) ((w - 9) % 8)) f)
     by false e false f =
-        shared (grind (arith, nat_tests, f)) (ap (λ b. if b then at_bit 20 0 else if nat_lt w 9 then at_bit (w + 1) 0 else at_bit (10 + (w - 9) / 8) ((w - 9) % 8)) e ∙ ap (λ b. if b then at_bit (w + 1) 0 else at_bit (10 + (w - 9) / 8) ((w - 9) % 8)) f)
+        shared (grind (arith, nat_tests, f)) (ap (λ b. if b then at_bit 20 0 else if nat_lt w 9 then at_bit (w + 1) 0 else at_bit (10 + (w - 9) / 8)
+        ((w - 9) % 8)) e ∙ ap (λ b. if b then at_bit (w + 1) 0 else at_bit (10 + (w - 9) / 8) ((w - 9) % 8)) f)
 
 avr_place : (w : ℕ) → w < 48 → AvrWire w → ((avr_wire w).address < 0x20) × ((avr_wire w).bit < 8)
 avr_place w h (power e f) = (subst (λ p. p.address < 0x20) (sym f) (omega arith), subst (λ p. p.bit < 8) (sym f) (omega arith))
@@ -156,12 +160,16 @@ wire_place AnsiC c w h = absurd (cc)
 avr_apart : (w x : ℕ) → AvrWire w → AvrWire x → (avr_wire w).address ≡ (avr_wire x).address → (avr_wire w).bit ≡ (avr_wire x).bit → w < 48 → x < 48 → w ≡ x
 avr_apart w x (power e f) (power g i) a b h k = e ∙ sym g
 avr_apart w x (power e f) (alone g j i) a b h k = let s : 20 ≡ x + 1 = sym (ap (λ p. p.address) f) ∙ a ∙ ap (λ p. p.address) i in absurd (omega (arith, s, j))
-avr_apart w x (power e f) (shared g i) a b h k = let s : 20 ≡ 10 + (x - 9) / 8 = sym (ap (λ p. p.address) f) ∙ a ∙ ap (λ p. p.address) i in absurd (omega (arith, s, g, k))
+avr_apart w x (power e f) (shared g i) a b h k = let s : 20 ≡ 10 + (x - 9) / 8 = sym (ap (λ p. p.address) f) ∙ a ∙ ap (λ p. p.address) i in absurd
+    (omega (arith, s, g, k))
 avr_apart w x (alone e l f) (power g i) a b h k = let s : w + 1 ≡ 20 = sym (ap (λ p. p.address) f) ∙ a ∙ ap (λ p. p.address) i in absurd (omega (arith, s, l))
 avr_apart w x (alone e l f) (alone g j i) a b h k = let s : w + 1 ≡ x + 1 = sym (ap (λ p. p.address) f) ∙ a ∙ ap (λ p. p.address) i in omega (arith, s)
-avr_apart w x (alone e l f) (shared g i) a b h k = let s : w + 1 ≡ 10 + (x - 9) / 8 = sym (ap (λ p. p.address) f) ∙ a ∙ ap (λ p. p.address) i in absurd (omega (arith, s, l))
-avr_apart w x (shared e f) (power g i) a b h k = let s : 10 + (w - 9) / 8 ≡ 20 = sym (ap (λ p. p.address) f) ∙ a ∙ ap (λ p. p.address) i in absurd (omega (arith, s, e, h))
-avr_apart w x (shared e f) (alone g j i) a b h k = let s : 10 + (w - 9) / 8 ≡ x + 1 = sym (ap (λ p. p.address) f) ∙ a ∙ ap (λ p. p.address) i in absurd (omega (arith, s, j))
+avr_apart w x (alone e l f) (shared g i) a b h k = let s : w + 1 ≡ 10 + (x - 9) / 8 = sym (ap (λ p. p.address) f) ∙ a ∙ ap (λ p. p.address) i in absurd
+    (omega (arith, s, l))
+avr_apart w x (shared e f) (power g i) a b h k = let s : 10 + (w - 9) / 8 ≡ 20 = sym (ap (λ p. p.address) f) ∙ a ∙ ap (λ p. p.address) i in absurd
+    (omega (arith, s, e, h))
+avr_apart w x (shared e f) (alone g j i) a b h k = let s : 10 + (w - 9) / 8 ≡ x + 1 = sym (ap (λ p. p.address) f) ∙ a ∙ ap (λ p. p.address) i in absurd
+    (omega (arith, s, j))
 avr_apart w x (shared e f) (shared g i) a b h k =
     let s : 10 + (w - 9) / 8 ≡ 10 + (x - 9) / 8 = sym (ap (λ p. p.address) f) ∙ a ∙ ap (λ p. p.address) i in
     let t : (w - 9) % 8 ≡ (x - 9) % 8 = sym (ap (λ p. p.bit) f) ∙ b ∙ ap (λ p. p.bit) i in
@@ -170,7 +178,8 @@ avr_apart w x (shared e f) (shared g i) a b h k =
 pic_apart : (w x : ℕ) → (pic_wire w).address ≡ (pic_wire x).address → (pic_wire w).bit ≡ (pic_wire x).bit → w ≡ x
 pic_apart w x a b = omega (arith, a, b)
 
-wires_apart : (target : Target) (w x : ℕ) (p q : CellBit) → w < 48 → x < 48 → wire_of target w ≡ Some p → wire_of target x ≡ Some q → p.address ≡ q.address → p.bit ≡ q.bit → w ≡ x
+wires_apart : (target : Target) (w x : ℕ) (p q : CellBit) → w < 48 → x < 48 → wire_of target w ≡ Some p → wire_of target x ≡ Some q → p.address ≡ q.address →
+    p.bit ≡ q.bit → w ≡ x
 wires_apart F628 w x p q h k e f a b =
     let g : pic_wire w ≡ p = cc (sym (wire_found w (pic_wire w) h) ∙ e) in let i : pic_wire x ≡ q = cc (sym (wire_found x (pic_wire x) k) ∙ f) in
     pic_apart w x (ap (λ y. y.address) g ∙ a ∙ sym (ap (λ y. y.address) i)) (ap (λ y. y.bit) g ∙ b ∙ sym (ap (λ y. y.bit) i))
@@ -206,7 +215,8 @@ module _ (o : Layout) (c : IsChip o.plan.target) (room : ram_need o.plan.sizes �
   bit_in k (kept lt b e) = (subst (λ p. p.address < 1120) (sym e) (omega (arith, b.listed.low)), subst (λ p. p.bit < 8) (sym e) (omega arith))
   bit_in k (wired past w e) = (subst (λ p. p.address < 1120) (sym e) w.low, subst (λ p. p.bit < 8) (sym e) w.bit)
 
-  bits_by : (j k : ℕ) → BitView j → BitView k → j < o.plan.sizes.kept_bits + WIRES → k < o.plan.sizes.kept_bits + WIRES → (bit_cell o j).address ≡ (bit_cell o k).address → (bit_cell o j).bit ≡ (bit_cell o k).bit → j ≡ k
+  bits_by : (j k : ℕ) → BitView j → BitView k → j < o.plan.sizes.kept_bits + WIRES → k < o.plan.sizes.kept_bits + WIRES →
+      (bit_cell o j).address ≡ (bit_cell o k).address → (bit_cell o j).bit ≡ (bit_cell o k).bit → j ≡ k
   bits_by j k (kept l b e) (kept m d f) g h a s =
       let same : b.address ≡ d.address = sym (ap (λ p. p.address) e) ∙ a ∙ ap (λ p. p.address) f in
       (apart o.plan.target o.plan.sizes.variables).bits j k b.address b.is (d.is ∙ ap Some (sym same)) (sym (ap (λ p. p.bit) e) ∙ s ∙ ap (λ p. p.bit) f)
@@ -239,12 +249,21 @@ module _ (o : Layout) (c : IsChip o.plan.target) (room : ram_need o.plan.sizes �
       let is : word_cell o v ≡ l.address = ap (λ a. unwrap_or a 0) l.is in
       let low : low_byte o.plan.target v ≡ Some (word_cell o v) = l.is ∙ ap Some (sym is) in
       let high : high_byte o.plan.target v ≡ Some (word_cell o v + 1) = (apart o.plan.target o.plan.sizes.variables).whole v (word_cell o v) low in
-      record { low = low; high = high; low_listed = subst (IsListed o.plan.target) (sym is) l.listed; high_listed = subst (IsListed o.plan.target) (same_some _ u.address (word_cell o v + 1) u.is high) u.listed }
+      record {
+        low = low;
+        high = high;
+        low_listed = subst (IsListed o.plan.target) (sym is) l.listed;
+        high_listed = subst (IsListed o.plan.target)
+            (same_some _ u.address (word_cell o v + 1) u.is high) u.listed;
+      }
 
-  mixed_by : (k v : ℕ) → BitView k → v < o.plan.sizes.variables → WordView v → ((bit_cell o k).address ≢ word_cell o v) × ((bit_cell o k).address ≢ word_cell o v + 1)
+  mixed_by : (k v : ℕ) → BitView k → v < o.plan.sizes.variables → WordView v → ((bit_cell o k).address ≢ word_cell o v) ×
+      ((bit_cell o k).address ≢ word_cell o v + 1)
   mixed_by k v (kept l b e) h w = (
-    (λ f. let same : word_cell o v ≡ b.address = sym f ∙ ap (λ p. p.address) e in (apart o.plan.target o.plan.sizes.variables).cells_and_bits v k b.address h (inl (w.low ∙ ap Some same)) b.is),
-    (λ f. let same : word_cell o v + 1 ≡ b.address = sym f ∙ ap (λ p. p.address) e in (apart o.plan.target o.plan.sizes.variables).cells_and_bits v k b.address h (inr (w.high ∙ ap Some same)) b.is),
+    (λ f. let same : word_cell o v ≡ b.address = sym f ∙ ap (λ p. p.address) e in (apart o.plan.target o.plan.sizes.variables).cells_and_bits v k b.address h
+        (inl (w.low ∙ ap Some same)) b.is),
+    (λ f. let same : word_cell o v + 1 ≡ b.address = sym f ∙ ap (λ p. p.address) e in (apart o.plan.target o.plan.sizes.variables).cells_and_bits v k b.address
+        h (inr (w.high ∙ ap Some same)) b.is),
   )
   mixed_by k v (wired l x e) h w = (
     (λ f. w.low_listed.off (subst (IsWireCell o.plan.target) (sym (ap (λ p. p.address) e) ∙ f) x.cell)),

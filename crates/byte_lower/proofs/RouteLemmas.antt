@@ -24,7 +24,8 @@ other_place i k n h = let e : (k == i) ≡ false = grind (arith, nat_tests, h) i
 pub none_before : (first last i : ℕ) (places : List ℕ) → Rises first places last → i ≤ first → times i places ≡ 0
 none_before first last i [] h before = refl
 none_before first last i (place ∷ places) h before =
-    times-cons i place places ∙ other_place i place (times i places) (omega (arith, h.0, before)) ∙ none_before place last i places h.1 (omega (arith, h.0, before))
+    times-cons i place places ∙ other_place i place (times i places) (omega (arith, h.0, before)) ∙ none_before place last i places h.1
+    (omega (arith, h.0, before))
 
 most_one : (b : Bool) (n : ℕ) → n ≡ 0 → cond b 1 0 + n ≤ 1
 most_one true n e = omega (arith, e)
@@ -92,7 +93,8 @@ module _ (code : List Paced) where
 
   pub pass : (at l : ℕ) (p : Paced) (rest : List Paced) → drop at code ≡ p ∷ rest → is_name (shape_of p.prim) l ≡ false → Ahead at l → Ahead (suc at) l
   pass at l p rest e other h =
-      let place : label_place (drop at code) l ≡ suc (label_place rest l) = ap (λ ps. label_place ps l) e ∙ ap (λ b. if b then 0 else suc (label_place rest l)) other in
+      let place : label_place (drop at code) l ≡ suc (label_place rest l) = ap (λ ps. label_place ps l) e ∙ ap (λ b. if b then 0 else suc (label_place rest l))
+      other in
       let next : label_place (drop (suc at) code) l ≡ label_place rest l = ap (λ ps. label_place ps l) (behind at p rest e) in
       omega (arith, h, place, next)
 
@@ -119,7 +121,8 @@ module _ (code : List Paced) where
     pub arrive : (s : Bytes) → Goal s → s.place ≡ last → Reaches s
     arrive s g e = record { begun = []; way = there g; rises = e }
 
-    pub go : (s : Bytes) (p : Paced) → slice_get code s.place ≡ Some p → asked_by p.prim ≡ ask.Nothing → Fits p.prim s → (act code p.prim s false no_reading).sent ≡ [] →
+    pub go : (s : Bytes) (p : Paced) → slice_get code s.place ≡ Some p → asked_by p.prim ≡ ask.Nothing → Fits p.prim s →
+        (act code p.prim s false no_reading).sent ≡ [] →
         s.place < (act code p.prim s false no_reading).next.place → Reaches (act code p.prim s false no_reading).next → Reaches s
     go s p h plain fits quiet up n =
         record {

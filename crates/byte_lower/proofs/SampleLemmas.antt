@@ -36,7 +36,10 @@ placed o at =
     let input : 0 < length o.inputs = omega (arith, ins) in
     let output : 0 < length o.outputs = omega (arith, outs) in
     record {
-      built = All-from_recursion (λ op. is_built op ≡ true) rises.ops (refl, (refl, (refl, (refl, (refl, (refl, (refl, (refl, (refl, (refl, (refl, tt)))))))))));
+      built = All-from_recursion (λ op. is_built op ≡ true) rises.ops (
+        refl,
+        (refl, (refl, (refl, (refl, (refl, (refl, (refl, (refl, (refl, (refl, tt)))))))))),
+      );
       nests = refl;
       range = All-from_recursion (IsInRange (room_of o)) rises.ops
           (input, (bit, (variable, (tt, (tt, ((bit, input), ((variable, tt), (output, (tt, (output, (tt, tt)))))))))));

@@ -43,7 +43,8 @@ pub record Apart (o : Layout) : Type 0 where
 -- bytes that stand for a store, and show a reading
 pub record Good (o : Layout) (r : Reading) (d : Store) (t : int.Store) : Type 0 where
   pub stands : Stands o d t
-  pub levels : (k : ℕ) → k < length o.inputs → bit_of (slice_index d.reading.levels (pin_at o.inputs k).port) (pin_at o.inputs k).bit ≡ slice_index_or r.inputs k false
+  pub levels : (k : ℕ) → k < length o.inputs → bit_of (slice_index d.reading.levels (pin_at o.inputs k).port) (pin_at o.inputs k).bit ≡ slice_index_or r.inputs
+      k false
   pub cells : length d.cells ≡ 1120
   pub latches : length d.latches ≡ 5
   pub shown : d.converting ≡ false
@@ -56,7 +57,8 @@ put_same : (xs : List ℕ) (a b : ℕ) (x : Bool) → a < length xs → b < 8 �
 put_same xs a b x h k =
     ap (λ n. bit_of n b) (get_or-set_same xs a _ 0 h) ∙ ap (λ c. bit_of (with_bit (slice_index xs a) c x) b) (in_byte_is b k) ∙ bit_put (slice_index xs a) b x k
 
-put_other : (xs : List ℕ) (a b : ℕ) (x : Bool) (c e : ℕ) → a < length xs → b < 8 → e < 8 → (c ≡ a → e ≡ b → ⊥) → bit_of (slice_index (put_in xs a b x) c) e ≡ bit_of (slice_index xs c) e
+put_other : (xs : List ℕ) (a b : ℕ) (x : Bool) (c e : ℕ) → a < length xs → b < 8 → e < 8 → (c ≡ a → e ≡ b → ⊥) → bit_of (slice_index (put_in xs a b x) c) e ≡
+    bit_of (slice_index xs c) e
 put_other xs a b x c e h k l ne = by (cases_eq c a)
   where
     by : (c ≡ a) ⊎ (c ≡ a → ⊥) → bit_of (slice_index (put_in xs a b x) c) e ≡ bit_of (slice_index xs c) e
@@ -92,14 +94,16 @@ module _ (o : Layout) (r : Reading) (apart : Apart o) (pins : HasPins o) where
     shown = g.shown;
   }
 
-  pub bit_written : (d : Store) (t : int.Store) (b : written.BitDest) (x : Bool) → IsDest (room_of o) b → Good o r d t → Good o r (with_bit_at d (dest_of o b) x) (with t b x)
+  pub bit_written : (d : Store) (t : int.Store) (b : written.BitDest) (x : Bool) → IsDest (room_of o) b → Good o r d t →
+      Good o r (with_bit_at d (dest_of o b) x) (with t b x)
   bit_written d t (opdest.B j) x h g =
       let a = bit_cell o j in
       let lt : a.address < length d.cells = subst (λ n. a.address < n) (sym g.cells) (apart.bit j h).0 in
       record {
         stands = record {
           bits = λ k l. chosen (nat_eq j k) x (t.bit k) (bit_of (slice_index (put_in d.cells a.address a.bit x) (bit_cell o k).address) (bit_cell o k).bit)
-              (λ e. let same : j ≡ k = are_same j k e in subst (λ i. bit_of (slice_index (put_in d.cells a.address a.bit x) (bit_cell o i).address) (bit_cell o i).bit ≡ x) same (put_same d.cells a.address a.bit x lt (apart.bit j h).1))
+              (λ e. let same : j ≡ k = are_same j k e in subst (λ i. bit_of (slice_index (put_in d.cells a.address a.bit x) (bit_cell o i).address)
+              (bit_cell o i).bit ≡ x) same (put_same d.cells a.address a.bit x lt (apart.bit j h).1))
               (λ e. put_other d.cells a.address a.bit x (bit_cell o k).address (bit_cell o k).bit lt (apart.bit j h).1 (apart.bit k l).1
               (λ f i. are_apart j k e (sym (apart.bits k j l h f i))) ∙ g.stands.bits k l);
           outputs = g.stands.outputs;
@@ -118,8 +122,10 @@ module _ (o : Layout) (r : Reading) (apart : Apart o) (pins : HasPins o) where
       record {
         stands = record {
           bits = g.stands.bits;
-          outputs = λ k l. chosen (nat_eq j k) x (t.output k) (bit_of (slice_index (put_in d.latches a.port a.bit x) (pin_at o.outputs k).port) (pin_at o.outputs k).bit)
-              (λ e. let same : j ≡ k = are_same j k e in subst (λ i. bit_of (slice_index (put_in d.latches a.port a.bit x) (pin_at o.outputs i).port) (pin_at o.outputs i).bit ≡ x) same (put_same d.latches a.port a.bit x lt (pins.outputs j h).1))
+          outputs = λ k l. chosen (nat_eq j k) x (t.output k) (bit_of (slice_index (put_in d.latches a.port a.bit x) (pin_at o.outputs k).port)
+              (pin_at o.outputs k).bit)
+              (λ e. let same : j ≡ k = are_same j k e in subst (λ i. bit_of (slice_index (put_in d.latches a.port a.bit x) (pin_at o.outputs i).port)
+              (pin_at o.outputs i).bit ≡ x) same (put_same d.latches a.port a.bit x lt (pins.outputs j h).1))
               (λ e. put_other d.latches a.port a.bit x (pin_at o.outputs k).port (pin_at o.outputs k).bit lt (pins.outputs j h).1 (pins.outputs k l).1
               (λ f i. are_apart j k e (sym (pins.apart k j l h (same_pin (pin_at o.outputs k) a f i)))) ∙ g.stands.outputs k l);
           numbers = g.stands.numbers;
@@ -130,14 +136,16 @@ module _ (o : Layout) (r : Reading) (apart : Apart o) (pins : HasPins o) where
         shown = g.shown;
       }
 
-  pub word_written : (d : Store) (t : int.Store) (v : ℕ) (z : ℤ) (n : ℕ) → v < o.plan.sizes.variables → IsWordOf z n → Good o r d t → Good o r (with_word d (word_cell o v) n) (with_number t v z)
+  pub word_written : (d : Store) (t : int.Store) (v : ℕ) (z : ℤ) (n : ℕ) → v < o.plan.sizes.variables → IsWordOf z n → Good o r d t →
+      Good o r (with_word d (word_cell o v) n) (with_number t v z)
   word_written d t v z n h is g =
       let a = word_cell o v in
       let lt : a + 1 < length d.cells = subst (λ m. a + 1 < m) (sym g.cells) (apart.word v h) in
       let small : n < 65536 = subst (λ m. m < 65536) (sym is.word) (word_small z) in
       record {
         stands = record {
-          bits = λ k l. ap (λ m. bit_of m (bit_cell o k).bit) (word_put_other d a n (bit_cell o k).address (apart.mixed k v l h).0 (apart.mixed k v l h).1) ∙ g.stands.bits k l;
+          bits = λ k l. ap (λ m. bit_of m (bit_cell o k).bit) (word_put_other d a n (bit_cell o k).address (apart.mixed k v l h).0 (apart.mixed k v l h).1) ∙
+              g.stands.bits k l;
           outputs = g.stands.outputs;
           numbers = λ u l. number_by u l (nat_eq v u) refl;
         };
@@ -147,7 +155,8 @@ module _ (o : Layout) (r : Reading) (apart : Apart o) (pins : HasPins o) where
         shown = g.shown;
       }
     where
-      number_by : (u : ℕ) → u < o.plan.sizes.variables → (b : Bool) → nat_eq v u ≡ b → IsWordOf (if b then z else t.number u) (word_at (with_word d (word_cell o v) n) (word_cell o u))
+      number_by : (u : ℕ) → u < o.plan.sizes.variables → (b : Bool) → nat_eq v u ≡ b → IsWordOf (if b then z else t.number u)
+          (word_at (with_word d (word_cell o v) n) (word_cell o u))
       number_by u l true e =
           let lt : word_cell o v + 1 < length d.cells = subst (λ m. word_cell o v + 1 < m) (sym g.cells) (apart.word v h) in
           let small : n < 65536 = subst (λ m. m < 65536) (sym is.word) (word_small z) in

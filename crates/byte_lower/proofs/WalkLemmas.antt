@@ -129,7 +129,8 @@ nested_on Closes k b rest [] [] (e ∷ es) n a = absurd a
 nested_on Closes k b rest [] (c ∷ ifs) (e ∷ es) n a = absurd a
 nested_on Closes k b rest (l ∷ labels) [] (e ∷ es) n a = absurd a
 
-opened_of : (h : Shape) (rest : List Bool → Bool) (labels : List ℕ) (ifs es : List Bool) → nests_by h rest es ≡ true → Alike labels ifs es → HasOpen h labels ifs
+opened_of : (h : Shape) (rest : List Bool → Bool) (labels : List ℕ) (ifs es : List Bool) → nests_by h rest es ≡ true → Alike labels ifs es →
+    HasOpen h labels ifs
 opened_of Opens rest labels ifs es n a = tt
 opened_of Plain rest labels ifs es n a = tt
 opened_of Turns rest labels ifs [] n a = absurd (cc)
@@ -174,41 +175,80 @@ kept_asleep r op m depth off = ap (λ b. if b then store_after r op m.store else
 pub record Guarded (o : Layout) (r : Reading) (x y z : IntOp) (g : Guard) : Type 0 where
   nest : (ops : List IntOp) (es : List Bool) → nests (x ∷ y ∷ z ∷ ops) es ≡ nests ops es
   ifs : (m : Moment) → (step r z (step r y (step r x m))).ifs ≡ m.ifs
-  store : (m : Moment) → (step r z (step r y (step r x m))).store ≡ (if all_run m.ifs then (if same (value_of r m.store g.from) g.is then int.with m.store g.to g.value else m.store) else m.store)
+  store : (m : Moment) → (step r z (step r y (step r x m))).store ≡ (if all_run m.ifs then (if same (value_of r m.store g.from) g.is then int.with m.store g.to
+      g.value else m.store) else m.store)
   pub source : IsInRange (room_of o) x → IsSource (room_of o) g.from
   pub dest : IsInRange (room_of o) y → IsDest (room_of o) g.to
 
 three_stores : (b v : Bool) (t : int.Store) (f : int.Store → int.Store) →
-    (if b then (if b && v then f (if b then t else t) else (if b then t else t)) else (if b && v then f (if b then t else t) else (if b then t else t))) ≡ (if b then (if v then f t else t) else t)
+    (if b then (if b && v then f (if b then t else t) else (if b then t else t)) else (if b && v then f (if b then t else t) else (if b then t else t))) ≡
+    (if b then (if v then f t else t) else t)
 three_stores true true t f = refl
 three_stores true false t f = refl
 three_stores false true t f = refl
 three_stores false false t f = refl
 
 stored : (b v w : Bool) (t : int.Store) (f : int.Store → int.Store) → w ≡ v →
-    (if b then (if b && v then f (if b then t else t) else (if b then t else t)) else (if b && v then f (if b then t else t) else (if b then t else t))) ≡ (if b then (if w then f t else t) else t)
+    (if b then (if b && v then f (if b then t else t) else (if b then t else t)) else (if b && v then f (if b then t else t) else (if b then t else t))) ≡
+    (if b then (if w then f t else t) else t)
 stored b v w t f e = three_stores b v t f ∙ ap (λ c. if b then (if c then f t else t) else t) (sym e)
 
-guard_set : (o : Layout) (r : Reading) (s : read.BitSource) (b : written.BitDest) → Guarded o r (Ifs s) (Set b) Fi (record { from = s; is = true; to = b; value = true })
-guard_set o r s b = record { nest = λ ops es. refl; ifs = λ m. refl; store = λ m. stored (all_run m.ifs) (value_of r m.store s) (same (value_of r m.store s) true) m.store (λ t. int.with t b true) (same_true_is (value_of r m.store s)); source = λ h. h; dest = λ h. h }
+guard_set : (o : Layout) (r : Reading) (s : read.BitSource) (b : written.BitDest) → Guarded o r (Ifs s) (Set b) Fi
+    (record { from = s; is = true; to = b; value = true })
+guard_set o r s b = record {
+  nest = λ ops es. refl;
+  ifs = λ m. refl;
+  store = λ m. stored (all_run m.ifs) (value_of r m.store s)
+      (same (value_of r m.store s) true) m.store (λ t. int.with t b true) (same_true_is (value_of r m.store s));
+  source = λ h. h;
+  dest = λ h. h;
+}
 
-guard_clear : (o : Layout) (r : Reading) (s : read.BitSource) (b : written.BitDest) → Guarded o r (Ifs s) (Clr b) Fi (record { from = s; is = true; to = b; value = false })
-guard_clear o r s b = record { nest = λ ops es. refl; ifs = λ m. refl; store = λ m. stored (all_run m.ifs) (value_of r m.store s) (same (value_of r m.store s) true) m.store (λ t. int.with t b false) (same_true_is (value_of r m.store s)); source = λ h. h; dest = λ h. h }
+guard_clear : (o : Layout) (r : Reading) (s : read.BitSource) (b : written.BitDest) → Guarded o r (Ifs s) (Clr b) Fi
+    (record { from = s; is = true; to = b; value = false })
+guard_clear o r s b = record {
+  nest = λ ops es. refl;
+  ifs = λ m. refl;
+  store = λ m. stored (all_run m.ifs) (value_of r m.store s)
+      (same (value_of r m.store s) true) m.store (λ t. int.with t b false) (same_true_is (value_of r m.store s));
+  source = λ h. h;
+  dest = λ h. h;
+}
 
-guard_set_off : (o : Layout) (r : Reading) (s : read.BitSource) (b : written.BitDest) → Guarded o r (Ifc s) (Set b) Fi (record { from = s; is = false; to = b; value = true })
-guard_set_off o r s b = record { nest = λ ops es. refl; ifs = λ m. refl; store = λ m. stored (all_run m.ifs) (not (value_of r m.store s)) (same (value_of r m.store s) false) m.store (λ t. int.with t b true) (same_false_is (value_of r m.store s)); source = λ h. h; dest = λ h. h }
+guard_set_off : (o : Layout) (r : Reading) (s : read.BitSource) (b : written.BitDest) → Guarded o r (Ifc s) (Set b) Fi
+    (record { from = s; is = false; to = b; value = true })
+guard_set_off o r s b = record {
+  nest = λ ops es. refl;
+  ifs = λ m. refl;
+  store = λ m. stored (all_run m.ifs) (not (value_of r m.store s))
+      (same (value_of r m.store s) false) m.store (λ t. int.with t b true) (same_false_is (value_of r m.store s));
+  source = λ h. h;
+  dest = λ h. h;
+}
 
-guard_clear_off : (o : Layout) (r : Reading) (s : read.BitSource) (b : written.BitDest) → Guarded o r (Ifc s) (Clr b) Fi (record { from = s; is = false; to = b; value = false })
-guard_clear_off o r s b = record { nest = λ ops es. refl; ifs = λ m. refl; store = λ m. stored (all_run m.ifs) (not (value_of r m.store s)) (same (value_of r m.store s) false) m.store (λ t. int.with t b false) (same_false_is (value_of r m.store s)); source = λ h. h; dest = λ h. h }
+guard_clear_off : (o : Layout) (r : Reading) (s : read.BitSource) (b : written.BitDest) → Guarded o r (Ifc s) (Clr b) Fi
+    (record { from = s; is = false; to = b; value = false })
+guard_clear_off o r s b = record {
+  nest = λ ops es. refl;
+  ifs = λ m. refl;
+  store = λ m. stored (all_run m.ifs) (not (value_of r m.store s))
+      (same (value_of r m.store s) false) m.store (λ t. int.with t b false) (same_false_is (value_of r m.store s));
+  source = λ h. h;
+  dest = λ h. h;
+}
 
 some_guard : (a b : Guard) → Some a ≡ Some b → a ≡ b
 some_guard a b e = cc
 
 pub guard_facts : (o : Layout) (r : Reading) (x y z : IntOp) (g : Guard) → guard_by x y z ≡ Some g → Guarded o r x y z g
-guard_facts o r (Ifs s) (Set b) Fi g e = subst (Guarded o r (Ifs s) (Set b) Fi) (some_guard (record { from = s; is = true; to = b; value = true }) g e) (guard_set o r s b)
-guard_facts o r (Ifs s) (Clr b) Fi g e = subst (Guarded o r (Ifs s) (Clr b) Fi) (some_guard (record { from = s; is = true; to = b; value = false }) g e) (guard_clear o r s b)
-guard_facts o r (Ifc s) (Set b) Fi g e = subst (Guarded o r (Ifc s) (Set b) Fi) (some_guard (record { from = s; is = false; to = b; value = true }) g e) (guard_set_off o r s b)
-guard_facts o r (Ifc s) (Clr b) Fi g e = subst (Guarded o r (Ifc s) (Clr b) Fi) (some_guard (record { from = s; is = false; to = b; value = false }) g e) (guard_clear_off o r s b)
+guard_facts o r (Ifs s) (Set b) Fi g e = subst (Guarded o r (Ifs s) (Set b) Fi) (some_guard (record { from = s; is = true; to = b; value = true }) g e)
+    (guard_set o r s b)
+guard_facts o r (Ifs s) (Clr b) Fi g e = subst (Guarded o r (Ifs s) (Clr b) Fi) (some_guard (record { from = s; is = true; to = b; value = false }) g e)
+    (guard_clear o r s b)
+guard_facts o r (Ifc s) (Set b) Fi g e = subst (Guarded o r (Ifc s) (Set b) Fi) (some_guard (record { from = s; is = false; to = b; value = true }) g e)
+    (guard_set_off o r s b)
+guard_facts o r (Ifc s) (Clr b) Fi g e = subst (Guarded o r (Ifc s) (Clr b) Fi) (some_guard (record { from = s; is = false; to = b; value = false }) g e)
+    (guard_clear_off o r s b)
 guard_facts o r x y z g e = absurd (cc)
 
 module _ (code : List Paced) where
@@ -221,10 +261,14 @@ module _ (code : List Paced) where
   all_pass at (l ∷ labels) ps rest e none h = (pass_all code at l ps rest e none h.0, all_pass at labels ps rest e none h.1)
 
   -- labels below one are no more in front of it behind it
-  pass_label : (at top : ℕ) (labels : List ℕ) (rest : List Paced) → drop at code ≡ paced (Label top) ∷ rest → Falls top labels → AllAhead at labels → AllAhead (suc at) labels
+  pass_label : (at top : ℕ) (labels : List ℕ) (rest : List Paced) → drop at code ≡ paced (Label top) ∷ rest → Falls top labels → AllAhead at labels →
+      AllAhead (suc at) labels
   pass_label at top [] rest e falls h = tt
-  pass_label at top (l ∷ labels) rest e falls h =
-      (pass code at l (paced (Label top)) rest e (other_label top l (below l top falls.0)) h.0, pass_label at top labels rest e (falls_up l top labels (less l top falls.0) falls.1) h.1)
+  pass_label at top (l ∷ labels) rest e falls h = (
+    pass code at l (paced (Label top)) rest e (other_label top l (below l top falls.0)) h.0,
+    pass_label at top labels rest e
+        (falls_up l top labels (less l top falls.0) falls.1) h.1,
+  )
     where
       below : (a b : ℕ) → a < b → a ≢ b
       below a b lt same = omega (arith, lt, same)
@@ -238,14 +282,16 @@ module _ (code : List Paced) where
     pub ahead : AllAhead at labels
     pub falls : Falls (suc k) labels
 
-  marks_opens : (at k : ℕ) (labels : List ℕ) (ps rest : List Paced) → drop at code ≡ ps ++ rest → HasNoNames ps → Marks at k labels → Marks (along at ps) (suc k) (label_of k ∷ labels)
+  marks_opens : (at k : ℕ) (labels : List ℕ) (ps rest : List Paced) → drop at code ≡ ps ++ rest → HasNoNames ps → Marks at k labels →
+      Marks (along at ps) (suc k) (label_of k ∷ labels)
   marks_opens at k labels ps rest e none m = record {
     later = λ l h. pass_all code at l ps rest e none (m.later l (omega (arith, h)));
     ahead = (pass_all code at (suc k) ps rest e none (m.later (suc k) (omega arith)), all_pass at labels ps rest e none m.ahead);
     falls = (omega arith, m.falls);
   }
 
-  marks_plain : (at k : ℕ) (labels : List ℕ) (ps rest : List Paced) → drop at code ≡ ps ++ rest → HasNoNames ps → Marks at k labels → Marks (along at ps) (suc k) labels
+  marks_plain : (at k : ℕ) (labels : List ℕ) (ps rest : List Paced) → drop at code ≡ ps ++ rest → HasNoNames ps → Marks at k labels →
+      Marks (along at ps) (suc k) labels
   marks_plain at k labels ps rest e none m = record {
     later = λ l h. pass_all code at l ps rest e none (m.later l (omega (arith, h)));
     ahead = all_pass at labels ps rest e none m.ahead;
@@ -253,9 +299,15 @@ module _ (code : List Paced) where
   }
 
   marks_far : (at k j : ℕ) (labels : List ℕ) → k ≤ j → Marks at k labels → Marks at j labels
-  marks_far at k j labels h m = record { later = λ l f. m.later l (omega (arith, f, h)); ahead = m.ahead; falls = falls_up (suc k) (suc j) labels (omega (arith, h)) m.falls }
+  marks_far at k j labels h m = record {
+    later = λ l f. m.later l (omega (arith, f, h));
+    ahead = m.ahead;
+    falls = falls_up (suc k) (suc j) labels
+        (omega (arith, h)) m.falls;
+  }
 
-  marks_closes : (at k l : ℕ) (labels : List ℕ) (rest : List Paced) → drop at code ≡ paced (Label l) ∷ rest → Marks at k (l ∷ labels) → Marks (suc at) (suc k) labels
+  marks_closes : (at k l : ℕ) (labels : List ℕ) (rest : List Paced) → drop at code ≡ paced (Label l) ∷ rest → Marks at k (l ∷ labels) →
+      Marks (suc at) (suc k) labels
   marks_closes at k l labels rest e m =
       let low = m.falls.0 in
       record {
@@ -264,7 +316,8 @@ module _ (code : List Paced) where
         falls = falls_up l (suc (suc k)) labels (omega (arith, low)) m.falls.1;
       }
 
-  marks_turns : (at k l : ℕ) (labels : List ℕ) (rest : List Paced) → drop at code ≡ paced (Jump (label_of k)) ∷ paced (Label l) ∷ rest → Marks at k (l ∷ labels) →
+  marks_turns : (at k l : ℕ) (labels : List ℕ) (rest : List Paced) → drop at code ≡ paced (Jump (label_of k)) ∷ paced (Label l) ∷ rest →
+      Marks at k (l ∷ labels) →
       Marks (suc (suc at)) (suc k) (label_of k ∷ labels)
   marks_turns at k l labels rest e m =
       let low = m.falls.0 in
@@ -272,9 +325,11 @@ module _ (code : List Paced) where
       let label = paced (Label l) in
       let e1 = behind code at jump (label ∷ rest) e in
       record {
-        later = λ j h. pass code (suc at) j label rest e1 (other_label l j (λ f. omega (arith, f, h, low))) (pass code at j jump (label ∷ rest) e refl (m.later j (omega (arith, h))));
+        later = λ j h. pass code (suc at) j label rest e1 (other_label l j (λ f. omega (arith, f, h, low))) (pass code at j jump (label ∷ rest) e refl
+            (m.later j (omega (arith, h))));
         ahead = (
-          pass code (suc at) (suc k) label rest e1 (other_label l (suc k) (λ f. omega (arith, f, low))) (pass code at (suc k) jump (label ∷ rest) e refl (m.later (suc k) (omega arith))),
+          pass code (suc at) (suc k) label rest e1 (other_label l (suc k) (λ f. omega (arith, f, low))) (pass code at (suc k) jump (label ∷ rest) e refl
+              (m.later (suc k) (omega arith))),
           pass_label (suc at) l labels rest e1 m.falls.1 (all_pass at labels (jump ∷ []) (label ∷ rest) e ((λ j. refl), tt) m.ahead.1),
         );
         falls = (omega arith, falls_up l (suc k) labels (omega (arith, low)) m.falls.1);
@@ -292,45 +347,82 @@ module _ (code : List Paced) where
   marks_on o Fi at k [] (b ∷ ifs) rest op e m = absurd op
   marks_on o Fi at k (l ∷ labels) [] rest op e m = absurd op
   marks_on o Fi at k (l ∷ labels) (b ∷ ifs) rest op e m = marks_closes at k l labels rest e m
-  marks_on o (Ifs f) at k labels ifs rest op e m = marks_opens at k labels (list_of o (Ifs f) (label_of k) (top_of labels)) rest e (no_names o (Ifs f) (label_of k) (top_of labels) (inl refl)) m
-  marks_on o (Ifc f) at k labels ifs rest op e m = marks_opens at k labels (list_of o (Ifc f) (label_of k) (top_of labels)) rest e (no_names o (Ifc f) (label_of k) (top_of labels) (inl refl)) m
-  marks_on o (Iflt w u) at k labels ifs rest op e m = marks_opens at k labels (list_of o (Iflt w u) (label_of k) (top_of labels)) rest e (no_names o (Iflt w u) (label_of k) (top_of labels) (inl refl)) m
-  marks_on o (Ifeq w u) at k labels ifs rest op e m = marks_opens at k labels (list_of o (Ifeq w u) (label_of k) (top_of labels)) rest e (no_names o (Ifeq w u) (label_of k) (top_of labels) (inl refl)) m
-  marks_on o (Ifee v a) at k labels ifs rest op e m = marks_opens at k labels (list_of o (Ifee v a) (label_of k) (top_of labels)) rest e (no_names o (Ifee v a) (label_of k) (top_of labels) (inl refl)) m
-  marks_on o op at k labels ifs rest opens e m = marks_plain at k labels (list_of o op (label_of k) (top_of labels)) rest e (no_names o op (label_of k) (top_of labels) (inr refl)) m
+  marks_on o (Ifs f) at k labels ifs rest op e m = marks_opens at k labels (list_of o (Ifs f) (label_of k) (top_of labels)) rest e
+      (no_names o (Ifs f) (label_of k) (top_of labels) (inl refl)) m
+  marks_on o (Ifc f) at k labels ifs rest op e m = marks_opens at k labels (list_of o (Ifc f) (label_of k) (top_of labels)) rest e
+      (no_names o (Ifc f) (label_of k) (top_of labels) (inl refl)) m
+  marks_on o (Iflt w u) at k labels ifs rest op e m = marks_opens at k labels (list_of o (Iflt w u) (label_of k) (top_of labels)) rest e
+      (no_names o (Iflt w u) (label_of k) (top_of labels) (inl refl)) m
+  marks_on o (Ifeq w u) at k labels ifs rest op e m = marks_opens at k labels (list_of o (Ifeq w u) (label_of k) (top_of labels)) rest e
+      (no_names o (Ifeq w u) (label_of k) (top_of labels) (inl refl)) m
+  marks_on o (Ifee v a) at k labels ifs rest op e m = marks_opens at k labels (list_of o (Ifee v a) (label_of k) (top_of labels)) rest e
+      (no_names o (Ifee v a) (label_of k) (top_of labels) (inl refl)) m
+  marks_on o op at k labels ifs rest opens e m = marks_plain at k labels (list_of o op (label_of k) (top_of labels)) rest e
+      (no_names o op (label_of k) (top_of labels) (inr refl)) m
 
 module _ (code : List Paced) (o : Layout) (r : Reading) (apart : Apart o) (pins : HasPins o) (Goal : Bytes → Type 0) (last : ℕ) where
   module _ (k at : ℕ) (rest : List Paced) (t : int.Store) (s : Bytes) (closed : s.open_call ≡ None) (good : Good o r s.store t) where
     abbrev Onto : ℕ → List ℕ → List Bool → Type 0
     Onto at' labels' ifs' = (s' : Bytes) → At code o r apart pins Goal last s' at' labels' ifs' t → Reaches code Goal last s'
 
-    still : (labels : List ℕ) (ifs : List Bool) (at' : ℕ) → Sleeps code o r apart pins Goal last s.place labels ifs → Onto at' labels ifs → Reaches code Goal last s
+    still : (labels : List ℕ) (ifs : List Bool) (at' : ℕ) → Sleeps code o r apart pins Goal last s.place labels ifs → Onto at' labels ifs →
+        Reaches code Goal last s
     still labels ifs at' z n = n s (record { closed = closed; good = good; stands_at = inr z })
 
-    deeper : (labels : List ℕ) (ifs : List Bool) (at' l : ℕ) (b : Bool) → Sleeps code o r apart pins Goal last s.place labels ifs → Onto at' (l ∷ labels) (b ∷ ifs) → Reaches code Goal last s
-    deeper labels ifs at' l b z n = n s (record { closed = closed; good = good; stands_at = inr (record { depth = suc z.depth; off = z.off; there = z.there }) })
+    deeper : (labels : List ℕ) (ifs : List Bool) (at' l : ℕ) (b : Bool) → Sleeps code o r apart pins Goal last s.place labels ifs →
+        Onto at' (l ∷ labels) (b ∷ ifs) → Reaches code Goal last s
+    deeper labels ifs at' l b z n = n s (record {
+      closed = closed;
+      good = good;
+      stands_at = inr (record { depth = suc z.depth; off = z.off; there = z.there });
+    })
 
-    sleeps_turn : (l : ℕ) (labels : List ℕ) (b : Bool) (ifs : List Bool) (depth : ℕ) → IsOff depth (b ∷ ifs) → s.place ≡ label_place code (label_at (l ∷ labels) depth) →
-        drop at code ≡ paced (Jump (label_of k)) ∷ paced (Label l) ∷ rest → Marks code at k (l ∷ labels) → Onto (suc (suc at)) (label_of k ∷ labels) (not b ∷ ifs) → Reaches code Goal last s
+    sleeps_turn : (l : ℕ) (labels : List ℕ) (b : Bool) (ifs : List Bool) (depth : ℕ) → IsOff depth (b ∷ ifs) →
+        s.place ≡ label_place code (label_at (l ∷ labels) depth) →
+        drop at code ≡ paced (Jump (label_of k)) ∷ paced (Label l) ∷ rest → Marks code at k (l ∷ labels) → Onto (suc (suc at)) (label_of k ∷ labels)
+        (not b ∷ ifs) → Reaches code Goal last s
     sleeps_turn l labels b ifs zero off there e m n =
         let jump = paced (Jump (label_of k)) in
         let e1 = behind code at jump (paced (Label l) ∷ rest) e in
-        let is_at : s.place ≡ suc at = there ∙ found code (suc at) l (paced (Label l)) rest e1 (same_label l l refl) (pass code at l jump (paced (Label l) ∷ rest) e refl m.ahead.0) in
+        let is_at : s.place ≡ suc at = there ∙ found code (suc at) l (paced (Label l)) rest e1 (same_label l l refl)
+        (pass code at l jump (paced (Label l) ∷ rest) e refl m.ahead.0) in
         label_go code Goal last s (suc at) rest is_at l e1
-        (n _ (record { closed = closed; good = any_flag o r apart pins s.store t None good; stands_at = inl (ap (λ x. x && not b) off.1 ∙ ap not off.0, ap suc is_at) }))
-    sleeps_turn l labels b ifs (suc depth) off there e m n = n s (record { closed = closed; good = good; stands_at = inr (record { depth = suc depth; off = off; there = there }) })
+        (n _ (record {
+          closed = closed;
+          good = any_flag o r apart pins s.store t None good;
+          stands_at = inl (
+            ap (λ x. x && not b) off.1 ∙ ap not off.0,
+            ap suc
+                is_at,
+          );
+        }))
+    sleeps_turn l labels b ifs (suc depth) off there e m n = n s (record {
+      closed = closed;
+      good = good;
+      stands_at = inr (record { depth = suc depth; off = off; there = there });
+    })
 
-    sleeps_close : (l : ℕ) (labels : List ℕ) (b : Bool) (ifs : List Bool) (depth : ℕ) → IsOff depth (b ∷ ifs) → s.place ≡ label_place code (label_at (l ∷ labels) depth) →
+    sleeps_close : (l : ℕ) (labels : List ℕ) (b : Bool) (ifs : List Bool) (depth : ℕ) → IsOff depth (b ∷ ifs) →
+        s.place ≡ label_place code (label_at (l ∷ labels) depth) →
         drop at code ≡ paced (Label l) ∷ rest → Marks code at k (l ∷ labels) → Onto (suc at) labels ifs → Reaches code Goal last s
     sleeps_close l labels b ifs zero off there e m n =
         let is_at : s.place ≡ at = there ∙ found code at l (paced (Label l)) rest e (same_label l l refl) m.ahead.0 in
-        label_go code Goal last s at rest is_at l e (n _ (record { closed = closed; good = any_flag o r apart pins s.store t None good; stands_at = inl (off.1, ap suc is_at) }))
-    sleeps_close l labels b ifs (suc depth) off there e m n = n s (record { closed = closed; good = good; stands_at = inr (record { depth = depth; off = off; there = there }) })
+        label_go code Goal last s at rest is_at l e (n _ (record {
+          closed = closed;
+          good = any_flag o r apart pins s.store t None good;
+          stands_at = inl (off.1, ap suc is_at);
+        }))
+    sleeps_close l labels b ifs (suc depth) off there e m n = n s (record {
+      closed = closed;
+      good = good;
+      stands_at = inr (record { depth = depth; off = off; there = there });
+    })
 
     -- an operation of which the branch does not run
     sleep_of : (op : IntOp) (labels : List ℕ) (ifs : List Bool) (b : Bool) → OpensOf op labels ifs → Sleeps code o r apart pins Goal last s.place labels ifs →
         drop at code ≡ list_of o op (label_of k) (top_of labels) ++ rest → Marks code at k labels →
-        Onto (along at (list_of o op (label_of k) (top_of labels))) (labels_behind (shape_of op) k labels) (ifs_behind (shape_of op) b ifs) → Reaches code Goal last s
+        Onto (along at (list_of o op (label_of k) (top_of labels))) (labels_behind (shape_of op) k labels) (ifs_behind (shape_of op) b ifs) →
+        Reaches code Goal last s
     sleep_of Els [] [] b op z e m n = absurd op
     sleep_of Els [] (c ∷ ifs) b op z e m n = absurd op
     sleep_of Els (l ∷ labels) [] b op z e m n = absurd op
@@ -346,7 +438,8 @@ module _ (code : List Paced) (o : Layout) (r : Reading) (apart : Apart o) (pins 
     sleep_of (Ifee v a) labels ifs b op z e m n = deeper labels ifs _ (label_of k) b z n
     sleep_of op labels ifs b opens z e m n = still labels ifs _ z n
 
-  at_end : (at : ℕ) (labels : List ℕ) (ifs es : List Bool) (place : ℕ) → nests [] es ≡ true → Alike labels ifs es → ((all_run ifs ≡ true) × (place ≡ at)) ⊎ Sleeps code o r apart pins Goal last place labels ifs → place ≡ at
+  at_end : (at : ℕ) (labels : List ℕ) (ifs es : List Bool) (place : ℕ) → nests [] es ≡ true → Alike labels ifs es → ((all_run ifs ≡ true) × (place ≡ at)) ⊎
+      Sleeps code o r apart pins Goal last place labels ifs → place ≡ at
   at_end at labels ifs es place n a (inl (run, is)) = is
   at_end at [] [] [] place n a (inr z) = absurd z.off
   at_end at [] [] (e ∷ es) place n a (inr z) = absurd (cc)
@@ -379,7 +472,8 @@ module _ (code : List Paced) (o : Layout) (r : Reading) (apart : Apart o) (pins 
     -- by the list of one operation
     one_on : (op : IntOp) (ops : List IntOp) (k at : ℕ) (labels : List ℕ) (es : List Bool) (m : Moment) (s : Bytes) → Ready (op ∷ ops) k at labels es m s →
         lists_of o 0 (op ∷ ops) k labels ≡ list_of o op (label_of k) (top_of labels) ++ lists_of o 0 ops (suc k) (labels_behind (shape_of op) k labels) →
-        ((at1 : ℕ) (es1 : List Bool) (s1 : Bytes) → Ready ops (suc k) at1 (labels_behind (shape_of op) k labels) es1 (step r op m) s1 → Reaches code Goal last s1) → Reaches code Goal last s
+        ((at1 : ℕ) (es1 : List Bool) (s1 : Bytes) → Ready ops (suc k) at1 (labels_behind (shape_of op) k labels) es1 (step r op m) s1 →
+        Reaches code Goal last s1) → Reaches code Goal last s
     one_on op ops k at labels es m s h split next_on =
         let ps = list_of o op (label_of k) (top_of labels) in
         let labels1 = labels_behind (shape_of op) k labels in
@@ -403,17 +497,23 @@ module _ (code : List Paced) (o : Layout) (r : Reading) (apart : Apart o) (pins 
           at_place = h1;
         }) in
         ⊎_elim
-        (λ awake. step_of code o r apart pins Goal last k at rest labels m.store s h.at_place.closed h.at_place.good awake.1 (h.marks.later (suc k) (omega arith)) op m.ifs
-        (All-head (λ x. is_built x ≡ true) op ops h.built) (All-head (IsInRange (room_of o)) op ops h.range) (All-head HoldsNumbers op ops h.hold) opens awake.0 e1
-        (λ s1 h1. go_on s1 (subst (λ x. At code o r apart pins Goal last s1 (along at ps) labels1 (step r op m).ifs (if x then store_after r op m.store else m.store)) (sym (reached_awake (shape_of op) m.ifs awake.0)) h1)))
+        (λ awake. step_of code o r apart pins Goal last k at rest labels m.store s h.at_place.closed h.at_place.good awake.1
+        (h.marks.later (suc k) (omega arith)) op m.ifs
+        (All-head (λ x. is_built x ≡ true) op ops h.built) (All-head (IsInRange (room_of o)) op ops h.range) (All-head HoldsNumbers op ops h.hold) opens
+        awake.0 e1
+        (λ s1 h1. go_on s1 (subst (λ x. At code o r apart pins Goal last s1 (along at ps) labels1 (step r op m).ifs (if x then store_after r op m.store else
+        m.store)) (sym (reached_awake (shape_of op) m.ifs awake.0)) h1)))
         (λ z. sleep_of k at rest m.store s h.at_place.closed h.at_place.good op labels m.ifs (holds r op m.store) opens z e1 h.marks
-        (λ s1 h1. go_on s1 (subst (λ x. At code o r apart pins Goal last s1 (along at ps) labels1 (step r op m).ifs x) (sym (kept_asleep r op m z.depth z.off)) h1)))
+        (λ s1 h1. go_on s1 (subst (λ x. At code o r apart pins Goal last s1 (along at ps) labels1 (step r op m).ifs x) (sym (kept_asleep r op m z.depth z.off))
+        h1)))
         h.at_place.stands_at
 
     -- by the one primitive of an if
-    guard_on : (x y z : IntOp) (g : Guard) (ops : List IntOp) (k at : ℕ) (labels : List ℕ) (es : List Bool) (m : Moment) (s : Bytes) → guard_by x y z ≡ Some g → Ready (x ∷ y ∷ z ∷ ops) k at labels es m s →
+    guard_on : (x y z : IntOp) (g : Guard) (ops : List IntOp) (k at : ℕ) (labels : List ℕ) (es : List Bool) (m : Moment) (s : Bytes) →
+        guard_by x y z ≡ Some g → Ready (x ∷ y ∷ z ∷ ops) k at labels es m s →
         lists_of o 0 (x ∷ y ∷ z ∷ ops) k labels ≡ put_where o g ∷ lists_of o 0 ops (suc (suc (suc k))) labels →
-        ((at1 : ℕ) (s1 : Bytes) → Ready ops (suc (suc (suc k))) at1 labels es (step r z (step r y (step r x m))) s1 → Reaches code Goal last s1) → Reaches code Goal last s
+        ((at1 : ℕ) (s1 : Bytes) → Ready ops (suc (suc (suc k))) at1 labels es (step r z (step r y (step r x m))) s1 → Reaches code Goal last s1) →
+        Reaches code Goal last s
     guard_on x y z g ops k at labels es m s is h split next_on =
         let p = put_where o g in
         let tail = lists_of o 0 ops (suc (suc (suc k))) labels in
@@ -423,42 +523,59 @@ module _ (code : List Paced) (o : Layout) (r : Reading) (apart : Apart o) (pins 
         let guarded = guard_facts o r x y z g is in
         let ranges = All-tail (IsInRange (room_of o)) x (y ∷ z ∷ ops) h.range in
         let m3 = step r z (step r y (step r x m)) in
-        let go_on : (s1 : Bytes) → At code o r apart pins Goal last s1 (suc at) labels m.ifs (if all_run m.ifs then (if same (value_of r m.store g.from) g.is then int.with m.store g.to g.value else m.store) else m.store) → Reaches code Goal last s1 =
+        let go_on : (s1 : Bytes) → At code o r apart pins Goal last s1 (suc at) labels m.ifs
+        (if all_run m.ifs then (if same (value_of r m.store g.from) g.is then int.with m.store g.to g.value else m.store) else m.store) →
+        Reaches code Goal last s1 =
         λ s1 h1. next_on (suc at) s1 (record {
-          built = All-tail (λ q. is_built q ≡ true) z ops (All-tail (λ q. is_built q ≡ true) y (z ∷ ops) (All-tail (λ q. is_built q ≡ true) x (y ∷ z ∷ ops) h.built));
+          built = All-tail (λ q. is_built q ≡ true) z ops (All-tail (λ q. is_built q ≡ true) y (z ∷ ops) (All-tail (λ q. is_built q ≡ true) x (y ∷ z ∷ ops)
+              h.built));
           range = All-tail (IsInRange (room_of o)) z ops (All-tail (IsInRange (room_of o)) y (z ∷ ops) ranges);
           hold = All-tail HoldsNumbers z ops (All-tail HoldsNumbers y (z ∷ ops) (All-tail HoldsNumbers x (y ∷ z ∷ ops) h.hold));
           ahead = behind code at p rest e1;
           to = to1;
           nested = sym (guarded.nest ops es) ∙ h.nested;
           alike = subst (λ ifs. Alike labels ifs es) (sym (guarded.ifs m)) h.alike;
-          marks = marks_far code (suc at) (suc k) (suc (suc (suc k))) labels (omega arith) (marks_plain code at k labels (p ∷ []) rest e1 ((λ l. refl), tt) h.marks);
+          marks = marks_far code (suc at) (suc k) (suc (suc (suc k))) labels (omega arith) (marks_plain code at k labels (p ∷ []) rest e1 ((λ l. refl), tt)
+              h.marks);
           ends = h.ends;
-          at_place = subst (λ ifs. At code o r apart pins Goal last s1 (suc at) labels ifs m3.store) (sym (guarded.ifs m)) (subst (λ t. At code o r apart pins Goal last s1 (suc at) labels m.ifs t) (sym (guarded.store m)) h1);
+          at_place = subst (λ ifs. At code o r apart pins Goal last s1 (suc at) labels ifs m3.store) (sym (guarded.ifs m))
+              (subst (λ t. At code o r apart pins Goal last s1 (suc at) labels m.ifs t) (sym (guarded.store m)) h1);
         }) in
         ⊎_elim
-        (λ awake. guard_step code o r apart pins Goal last k at rest labels m.ifs m.store s h.at_place.closed h.at_place.good awake.0 awake.1 g.from g.is g.to g.value
+        (λ awake. guard_step code o r apart pins Goal last k at rest labels m.ifs m.store s h.at_place.closed h.at_place.good awake.0 awake.1 g.from g.is g.to
+        g.value
         (guarded.source (All-head (IsInRange (room_of o)) x (y ∷ z ∷ ops) h.range)) (guarded.dest (All-head (IsInRange (room_of o)) y (z ∷ ops) ranges)) e1
-        (λ s1 h1. go_on s1 (subst (λ b. At code o r apart pins Goal last s1 (suc at) labels m.ifs (if b then (if same (value_of r m.store g.from) g.is then int.with m.store g.to g.value else m.store) else m.store)) (sym awake.0) h1)))
+        (λ s1 h1. go_on s1 (subst (λ b. At code o r apart pins Goal last s1 (suc at) labels m.ifs
+        (if b then (if same (value_of r m.store g.from) g.is then int.with m.store g.to g.value else m.store) else m.store)) (sym awake.0) h1)))
         (λ w. still k at rest m.store s h.at_place.closed h.at_place.good labels m.ifs (suc at) w
-        (λ s1 h1. go_on s1 (subst (λ b. At code o r apart pins Goal last s1 (suc at) labels m.ifs (if b then (if same (value_of r m.store g.from) g.is then int.with m.store g.to g.value else m.store) else m.store)) (sym (off_stops w.depth m.ifs w.off)) h1)))
+        (λ s1 h1. go_on s1 (subst (λ b. At code o r apart pins Goal last s1 (suc at) labels m.ifs
+        (if b then (if same (value_of r m.store g.from) g.is then int.with m.store g.to g.value else m.store) else m.store))
+        (sym (off_stops w.depth m.ifs w.off)) h1)))
         h.at_place.stands_at
 
-    three_on : (x y z : IntOp) (ops : List IntOp) (k at : ℕ) (labels : List ℕ) (es : List Bool) (m : Moment) (s : Bytes) (g : Option Guard) → guard_by x y z ≡ g → Ready (x ∷ y ∷ z ∷ ops) k at labels es m s →
-        ((at1 : ℕ) (es1 : List Bool) (s1 : Bytes) → Ready (y ∷ z ∷ ops) (suc k) at1 (labels_behind (shape_of x) k labels) es1 (step r x m) s1 → Reaches code Goal last s1) →
-        ((at1 : ℕ) (s1 : Bytes) → Ready ops (suc (suc (suc k))) at1 labels es (step r z (step r y (step r x m))) s1 → Reaches code Goal last s1) → Reaches code Goal last s
+    three_on : (x y z : IntOp) (ops : List IntOp) (k at : ℕ) (labels : List ℕ) (es : List Bool) (m : Moment) (s : Bytes) (g : Option Guard) →
+        guard_by x y z ≡ g → Ready (x ∷ y ∷ z ∷ ops) k at labels es m s →
+        ((at1 : ℕ) (es1 : List Bool) (s1 : Bytes) → Ready (y ∷ z ∷ ops) (suc k) at1 (labels_behind (shape_of x) k labels) es1 (step r x m) s1 →
+        Reaches code Goal last s1) →
+        ((at1 : ℕ) (s1 : Bytes) → Ready ops (suc (suc (suc k))) at1 labels es (step r z (step r y (step r x m))) s1 → Reaches code Goal last s1) →
+        Reaches code Goal last s
     three_on x y z ops k at labels es m s None is h one far =
         one_on x (y ∷ z ∷ ops) k at labels es m s h
-        (ap (λ g. joined g (λ q. put_where o q ∷ lists_of o 2 (y ∷ z ∷ ops) (suc k) labels) (list_of o x (label_of k) (top_of labels) ++ lists_of o 0 (y ∷ z ∷ ops) (suc k) (labels_behind (shape_of x) k labels))) is) one
+        (ap (λ g. joined g (λ q. put_where o q ∷ lists_of o 2 (y ∷ z ∷ ops) (suc k) labels) (list_of o x (label_of k) (top_of labels) ++ lists_of o 0
+        (y ∷ z ∷ ops) (suc k) (labels_behind (shape_of x) k labels))) is) one
     three_on x y z ops k at labels es m s (Some g) is h one far =
         guard_on x y z g ops k at labels es m s is h
-        (ap (λ g. joined g (λ q. put_where o q ∷ lists_of o 2 (y ∷ z ∷ ops) (suc k) labels) (list_of o x (label_of k) (top_of labels) ++ lists_of o 0 (y ∷ z ∷ ops) (suc k) (labels_behind (shape_of x) k labels))) is) far
+        (ap (λ g. joined g (λ q. put_where o q ∷ lists_of o 2 (y ∷ z ∷ ops) (suc k) labels) (list_of o x (label_of k) (top_of labels) ++ lists_of o 0
+        (y ∷ z ∷ ops) (suc k) (labels_behind (shape_of x) k labels))) is) far
 
     -- to where all have been run
-    pub walk : (ops : List IntOp) (k at : ℕ) (labels : List ℕ) (es : List Bool) (m : Moment) (s : Bytes) → Ready ops k at labels es m s → Reaches code Goal last s
+    pub walk : (ops : List IntOp) (k at : ℕ) (labels : List ℕ) (es : List Bool) (m : Moment) (s : Bytes) → Ready ops k at labels es m s →
+        Reaches code Goal last s
     walk [] k at labels es m s h = at_last k at labels es m s h
-    walk (x ∷ []) k at labels es m s h = one_on x [] k at labels es m s h refl (λ at1 es1 s1 h1. walk [] (suc k) at1 (labels_behind (shape_of x) k labels) es1 (step r x m) s1 h1)
-    walk (x ∷ y ∷ []) k at labels es m s h = one_on x (y ∷ []) k at labels es m s h refl (λ at1 es1 s1 h1. walk (y ∷ []) (suc k) at1 (labels_behind (shape_of x) k labels) es1 (step r x m) s1 h1)
+    walk (x ∷ []) k at labels es m s h = one_on x [] k at labels es m s h refl (λ at1 es1 s1 h1. walk [] (suc k) at1 (labels_behind (shape_of x) k labels) es1
+        (step r x m) s1 h1)
+    walk (x ∷ y ∷ []) k at labels es m s h = one_on x (y ∷ []) k at labels es m s h refl (λ at1 es1 s1 h1. walk (y ∷ []) (suc k) at1
+        (labels_behind (shape_of x) k labels) es1 (step r x m) s1 h1)
     walk (x ∷ y ∷ z ∷ ops) k at labels es m s h =
         three_on x y z ops k at labels es m s (guard_by x y z) refl h
         (λ at1 es1 s1 h1. walk (y ∷ z ∷ ops) (suc k) at1 (labels_behind (shape_of x) k labels) es1 (step r x m) s1 h1)

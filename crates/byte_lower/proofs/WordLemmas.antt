@@ -79,14 +79,19 @@ same_equal p q r s yea nay = by (p == q) refl
     by true e = let h : p ≡ q = grind (arith, nat_tests, e) in let k : r ≡ s = yea h in grind (arith, nat_tests, k)
     by false e = grind (arith, nat_tests, e, nay)
 
-less_by : (m n : ℕ) → m < 65536 → n < 65536 → (m < 32768) ⊎ (32768 ≤ m) → (n < 32768) ⊎ (32768 ≤ n) → int_lt (cast_signed w16 m) (cast_signed w16 n) ≡ nat_lt (lifted m) (lifted n)
-less_by m n f g (inl l) (inl k) = ap (λ x. int_lt x (cast_signed w16 n)) (signed_low m l) ∙ ap (int_lt (pos m)) (signed_low n k) ∙ same_less m n (lifted m) (lifted n) (λ h. omega (arith, l, k, h)) (λ h. omega (arith, l, k, h))
+less_by : (m n : ℕ) → m < 65536 → n < 65536 → (m < 32768) ⊎ (32768 ≤ m) → (n < 32768) ⊎ (32768 ≤ n) → int_lt (cast_signed w16 m) (cast_signed w16 n) ≡ nat_lt
+    (lifted m) (lifted n)
+less_by m n f g (inl l) (inl k) = ap (λ x. int_lt x (cast_signed w16 n)) (signed_low m l) ∙ ap (int_lt (pos m)) (signed_low n k) ∙ same_less m n (lifted m)
+    (lifted n) (λ h. omega (arith, l, k, h)) (λ h. omega (arith, l, k, h))
 less_by m n f g (inl l) (inr k) =
-    ap (λ x. int_lt x (cast_signed w16 n)) (signed_low m l) ∙ ap (int_lt (pos m)) (signed_high n k) ∙ same_less 1 0 (lifted m) (lifted n) (λ h. omega (arith, h)) (λ h. omega (arith, g, l, k, h))
+    ap (λ x. int_lt x (cast_signed w16 n)) (signed_low m l) ∙ ap (int_lt (pos m)) (signed_high n k) ∙ same_less 1 0 (lifted m) (lifted n)
+    (λ h. omega (arith, h)) (λ h. omega (arith, g, l, k, h))
 less_by m n f g (inr l) (inl k) =
-    ap (λ x. int_lt x (cast_signed w16 n)) (signed_high m l) ∙ ap (int_lt (negsuc (65536 - suc m))) (signed_low n k) ∙ same_less 0 1 (lifted m) (lifted n) (λ h. omega (arith, f, l, k)) (λ h. omega (arith, h))
+    ap (λ x. int_lt x (cast_signed w16 n)) (signed_high m l) ∙ ap (int_lt (negsuc (65536 - suc m))) (signed_low n k) ∙ same_less 0 1 (lifted m) (lifted n)
+    (λ h. omega (arith, f, l, k)) (λ h. omega (arith, h))
 less_by m n f g (inr l) (inr k) =
-    ap (λ x. int_lt x (cast_signed w16 n)) (signed_high m l) ∙ ap (int_lt (negsuc (65536 - suc m))) (signed_high n k) ∙ same_less (65536 - suc n) (65536 - suc m) (lifted m) (lifted n) (λ h. omega (arith, f, g, l, k, h)) (λ h. omega (arith, f, g, l, k, h))
+    ap (λ x. int_lt x (cast_signed w16 n)) (signed_high m l) ∙ ap (int_lt (negsuc (65536 - suc m))) (signed_high n k) ∙ same_less (65536 - suc n)
+    (65536 - suc m) (lifted m) (lifted n) (λ h. omega (arith, f, g, l, k, h)) (λ h. omega (arith, f, g, l, k, h))
 
 same_tests : (P : Type 0) (b c : Bool) → (b ≡ true → P) → (P → b ≡ true) → (c ≡ true → P) → (P → c ≡ true) → b ≡ c
 same_tests P true true f g h k = refl
@@ -110,13 +115,15 @@ module _ (a b : ℤ) (m n : ℕ) (f : IsWordOf a m) (g : IsWordOf b n) where
   pub sum_word : IsWordOf (wrap (a +ℤ b)) ((m + n) % 65536)
   sum_word = record {
     number = wrapped (a +ℤ b);
-    word = sym (signed_word ((m + n) % 65536) (omega arith)) ∙ ap word_of (wrapping_add-bits w16 m n m_small n_small) ∙ ap (λ z. word_of (wrap (z +ℤ cast_signed w16 n))) a_is ∙ ap (λ z. word_of (wrap (a +ℤ z))) b_is;
+    word = sym (signed_word ((m + n) % 65536) (omega arith)) ∙ ap word_of (wrapping_add-bits w16 m n m_small n_small) ∙ ap
+        (λ z. word_of (wrap (z +ℤ cast_signed w16 n))) a_is ∙ ap (λ z. word_of (wrap (a +ℤ z))) b_is;
   }
 
   pub difference_word : IsWordOf (wrap (a -ℤ b)) ((m + (65536 - n)) % 65536)
   difference_word = record {
     number = wrapped (a -ℤ b);
-    word = sym (signed_word ((m + (65536 - n)) % 65536) (omega arith)) ∙ ap word_of (wrapping_sub-bits w16 m n m_small n_small) ∙ ap (λ z. word_of (wrap (z -ℤ cast_signed w16 n))) a_is ∙ ap (λ z. word_of (wrap (a -ℤ z))) b_is;
+    word = sym (signed_word ((m + (65536 - n)) % 65536) (omega arith)) ∙ ap word_of (wrapping_sub-bits w16 m n m_small n_small) ∙ ap
+        (λ z. word_of (wrap (z -ℤ cast_signed w16 n))) a_is ∙ ap (λ z. word_of (wrap (a -ℤ z))) b_is;
   }
 
   pub less_word : int_lt a b ≡ nat_lt (lifted m) (lifted n)
@@ -131,7 +138,8 @@ module _ (a b : ℤ) (m n : ℕ) (f : IsWordOf a m) (g : IsWordOf b n) where
 -- it does not matter which of two stands first
 pub equal_turned : (a b : ℤ) → int_eq a b ≡ int_eq b a
 equal_turned a b =
-    same_tests (a ≡ b) (int_eq a b) (int_eq b a) (λ e. (Decides-int_eq a b).0 e) (λ e. (Decides-int_eq a b).1 e) (λ e. sym ((Decides-int_eq b a).0 e)) (λ e. (Decides-int_eq b a).1 (sym e))
+    same_tests (a ≡ b) (int_eq a b) (int_eq b a) (λ e. (Decides-int_eq a b).0 e) (λ e. (Decides-int_eq a b).1 e) (λ e. sym ((Decides-int_eq b a).0 e))
+    (λ e. (Decides-int_eq b a).1 (sym e))
 
 -- to take a number away is to add its opposite
 pub opposite_sum : (a b : ℤ) → wrap (a +ℤ wrap (neg_ℤ b)) ≡ wrap (a -ℤ b)

@@ -52,7 +52,8 @@ item xs i d lt = rw add-one (drop-cons xs i d lt)
 -- one more case of a table
 pub cases_step : (dest : List ℕ) (values : List ℤ) (i : ℕ) → i < length values
     → cases_text dest i (drop i values)
-    ≡ filled (codes " case #: v_@ = w16($L); break;") dest (decimal i) (signed_decimal (get_or values i (pos 0))) ++ cases_text dest (i + 1) (drop (i + 1) values)
+    ≡ filled (codes " case #: v_@ = w16($L); break;") dest (decimal i) (signed_decimal (get_or values i (pos 0))) ++ cases_text dest (i + 1)
+    (drop (i + 1) values)
 cases_step dest values i lt = ap (cases_text dest i) (item values i (pos 0) lt)
 
 -- one more variable

@@ -12,5 +12,6 @@ put_where-requires-clause-to c =
 
 pub returns-in_ok-push-in-Some : goal.returns-in_ok-push-in-Some
 returns-in_ok-push-in-Some c =
-    put_step c.args.layout.now c.args.ops.now c.args.k (reverse c.args.labels.now.items) c.in-Some.guard c.push.new.self c.args.code.now c.requires.some (sym c.guard_at.ensures ∙ c.in-Some.is)
+    put_step c.args.layout.now c.args.ops.now c.args.k (reverse c.args.labels.now.items) c.in-Some.guard c.push.new.self c.args.code.now c.requires.some
+    (sym c.guard_at.ensures ∙ c.in-Some.is)
     (c.in_ok-push-in-Some.ensures.ok ∙ ap (λ p. c.args.code.now ++ p ∷ []) c.put_where.ensures)

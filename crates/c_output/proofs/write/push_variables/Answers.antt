@@ -19,5 +19,6 @@ loop-place-preserved c =
     let same : to_z w16 (of_z w16 start) ≡ start = grind (arith, to_z-of_z) in
     grown c.loop-place.text.items c.push_variable.new.text.items (filled (codes "static int v_@ = #;\n") name (signed_decimal start) [])
     (variables_text (drop (i + 1) names) (drop (i + 1) starts)) (variables_text (drop i names) (drop i starts))
-    (variables_step names starts i name c.requires c.loop-place-test.true c.index-names-place.is) (c.in_ok-push_variable.ensures ∙ ap (λ v. c.loop-place.text.items ++ filled (codes "static int v_@ = #;\n") name (signed_decimal v) []) same)
+    (variables_step names starts i name c.requires c.loop-place-test.true c.index-names-place.is)
+    (c.in_ok-push_variable.ensures ∙ ap (λ v. c.loop-place.text.items ++ filled (codes "static int v_@ = #;\n") name (signed_decimal v) []) same)
     ∙ c.loop-place.invariant
