@@ -110,3 +110,25 @@ returns-in-Ok-clause-replayed g c y =
       runs = held_replays p old c.args.file.now program steps _ (held_target old c.args.source.now p machine (c.in_ok-legal.ensures.holds y)) said
           (c.in-Ok.ensures.lines ∙ ap (λ (names : Names). run_lines (duty_shown p) names program steps) named);
     }
+
+pub returns-in-Ok-clause-only : goal.returns-in-Ok-clause-only
+returns-in-Ok-clause-only g c =
+    let F = g.F.Files in
+    let old = F.held c.args.files.now in
+    let mid = F.held c.take_project.new.files in
+    let last = F.held c.take_code.new.files in
+    both_read F.tells (F.counts c.args.files.now) (F.counts c.take_code.new.files) (F.counts c.take_trace.new.files) old last (F.held c.take_trace.new.files)
+    (both_read F.tells (F.counts c.args.files.now) (F.counts c.take_project.new.files) (F.counts c.take_code.new.files) old mid last
+    c.take_project.ensures.only c.take_code.ensures.only)
+    c.take_trace.ensures.only
+
+pub returns-in-Err-clause-only : goal.returns-in-Err-clause-only
+returns-in-Err-clause-only g c =
+    let F = g.F.Files in
+    let old = F.held c.args.files.now in
+    let mid = F.held c.take_project.new.files in
+    let last = F.held c.take_code.new.files in
+    both_read F.tells (F.counts c.args.files.now) (F.counts c.take_code.new.files) (F.counts c.take_trace.new.files) old last (F.held c.take_trace.new.files)
+    (both_read F.tells (F.counts c.args.files.now) (F.counts c.take_project.new.files) (F.counts c.take_code.new.files) old mid last
+    c.take_project.ensures.only c.take_code.ensures.only)
+    c.take_trace.ensures.only
