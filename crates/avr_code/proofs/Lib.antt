@@ -5,4 +5,5 @@ pub mod Effects
 pub mod Paths
 pub mod Standing
 pub mod Sums
-pub mod Laws
+pub mod Primitives
+pub mod Whole

@@ -1,0 +1,207 @@
+-- The law of the primitives that are admitted.
+use Rattle.std.proofs.Common.{◌≡◌, ◌≢◌, ℕ, zero, suc, ◌+◌, ◌<◌, ◌≤◌, ◌⊎◌, inl, inr, Bool, true, false, List, [], ◌∷◌, ◌++◌, length, refl, sym, ap, ◌∙◌, subst, arith, lit<, lit≤, length-append}
+use Rattle.std.specs.Prelude.{◌==◌, if◌then◌else◌, slice_index}
+use Rattle.chip_tables.specs.Outside.{no_reading}
+use Rattle.runs.specs.declared.ask.Ask.TheVariants as ask
+use Rattle.runs.specs.Chip.{steps_over}
+use Rattle.runs.specs.Run.{ask_of}
+use Rattle.byte_code.specs.declared.prim.BytePrim.{BytePrim}
+use Rattle.byte_code.specs.declared.prim.BytePrim.TheVariants.{Start, CyclePoll, AdcPoll, Label, Jump, Call, Return, JumpWhere, Bit, Byte, Word, Compare, Device, Eeprom, Table}
+use Rattle.byte_code.specs.declared.prim.Test.{Test}
+use Rattle.byte_code.specs.declared.prim.Test.TheVariants as test
+use Rattle.byte_code.specs.declared.prim.ByteOp.{ByteOp}
+use Rattle.byte_code.specs.declared.prim.ByteOp.TheVariants as bytes
+use Rattle.byte_code.specs.declared.prim.WordOp.{WordOp}
+use Rattle.byte_code.specs.declared.prim.WordOp.TheVariants as words
+use Rattle.byte_code.specs.declared.prim.WordSource.{WordSource}
+use Rattle.byte_code.specs.declared.prim.WordSource.TheVariants as source
+use Rattle.byte_code.specs.declared.state.Bytes.{Bytes}
+use Rattle.byte_code.specs.Machine.{act, asked_by}
+use Rattle.avr_mach.specs.declared.insn.AvrInsn.{AvrInsn}
+use Rattle.avr_mach.specs.declared.state.AvrState.{AvrState}
+use Rattle.avr_mach.specs.Words.{size_of, first_word, second_word}
+use Rattle.target_core.specs.Law.{MachineLaw, IsReady, Layout, has_words}
+use Rattle.avr_code.specs.Code.{Piece, insn_of, words_by, words_of, size_in, code_of, word_count, cycle_count}
+use Rattle.avr_code.specs.Stands.{StandsAt}
+use Rattle.avr_code.specs.Target.{Admits, AdmitsWord, leave_count, avr_target}
+use Rattle.avr_code.proofs.Primitives as law
+use Rattle.avr_code.proofs.Walk.{sizes}
+
+word_length : (i : AvrInsn) → (size_of i ≡ 1) ⊎ (size_of i ≡ 2) → length (words_by (size_of i) i) ≡ size_of i
+word_length i (inl e) = ap (λ n. length (words_by n i)) e ∙ sym e
+word_length i (inr e) = ap (λ n. length (words_by n i)) e ∙ sym e
+
+code_length : (ps : List Piece) → length (words_of ps) ≡ size_in ps
+code_length [] = refl
+code_length (p ∷ ps) =
+    length-append (words_by (size_of (insn_of p)) (insn_of p)) (words_of ps)
+    ∙ ap (λ n. n + length (words_of ps)) (word_length (insn_of p) (sizes (insn_of p)))
+    ∙ ap (λ n. size_of (insn_of p) + n) (code_length ps)
+
+-- no primitive's words depend on the places of the labels
+same_size : (p : BytePrim) (labels : List ℕ) → Admits p → size_in (code_of p labels) ≡ word_count p
+same_size (Label l) labels h = refl
+same_size (Jump l) labels h = refl
+same_size (JumpWhere test.LoopsOn l) labels h = refl
+same_size (JumpWhere (test.Flag k true) l) labels h = refl
+same_size (JumpWhere (test.Flag k false) l) labels h = refl
+same_size (JumpWhere (test.Bit from is) l) labels h = absurd h
+same_size (JumpWhere test.NoByte l) labels h = absurd h
+same_size (JumpWhere test.Sends l) labels h = absurd h
+same_size (JumpWhere test.Writes l) labels h = absurd h
+same_size (JumpWhere test.NoneWaits l) labels h = absurd h
+same_size (Byte op) labels h = refl
+same_size (Word op) labels h = refl
+same_size (Call l) labels h = absurd h
+same_size Return labels h = absurd h
+same_size (CyclePoll l) labels h = absurd h
+same_size (Compare op) labels h = absurd h
+same_size (Start n) labels h = absurd h
+same_size (AdcPoll l) labels h = absurd h
+same_size (Bit op) labels h = absurd h
+same_size (Device op) labels h = absurd h
+same_size (Eeprom op) labels h = absurd h
+same_size (Table values l) labels h = absurd h
+
+abbrev IsFull : List Piece → Type 0
+IsFull [] = ⊥
+IsFull (p ∷ ps) = Unit {0}
+
+some_words : (ps : List Piece) → IsFull ps → 0 < size_in ps
+some_words [] full = absurd full
+some_words (p ∷ ps) full = by (size_of (insn_of p)) (size_in ps) (sizes (insn_of p))
+  where
+    by : (n k : ℕ) → (n ≡ 1) ⊎ (n ≡ 2) → 0 < n + k
+    by n k (inl e) = omega (arith, e)
+    by n k (inr e) = omega (arith, e)
+
+word_words : (op : WordOp) → AdmitsWord op → 0 < word_count (Word op)
+word_words (words.Move to (source.Cells a)) h = some_words (code_of (Word (words.Move to (source.Cells a))) []) tt
+word_words (words.Move to (source.Number low high)) h = some_words (code_of (Word (words.Move to (source.Number low high))) []) tt
+word_words (words.Increment to) h = some_words (code_of (Word (words.Increment to)) []) tt
+word_words (words.Decrement to) h = some_words (code_of (Word (words.Decrement to)) []) tt
+word_words (words.Add to a b) h = some_words (code_of (Word (words.Add to a b)) []) tt
+word_words (words.Subtract to (source.Cells a) b) h = some_words (code_of (Word (words.Subtract to (source.Cells a) b)) []) tt
+word_words (words.Subtract to (source.Number low high) b) h = some_words (code_of (Word (words.Subtract to (source.Number low high) b)) []) tt
+word_words (words.NegateIf to sign) h = absurd h
+word_words words.MultiplyStep h = absurd h
+word_words words.DivideStep h = absurd h
+
+worded : (p : BytePrim) → Admits p → has_words p ≡ true → 0 < word_count p
+worded (Label l) h e = absurd (cc e)
+worded (Jump l) h e = lit< tt
+worded (JumpWhere test.LoopsOn l) h e = lit< tt
+worded (JumpWhere (test.Flag k true) l) h e = lit< tt
+worded (JumpWhere (test.Flag k false) l) h e = lit< tt
+worded (JumpWhere (test.Bit from is) l) h e = absurd h
+worded (JumpWhere test.NoByte l) h e = absurd h
+worded (JumpWhere test.Sends l) h e = absurd h
+worded (JumpWhere test.Writes l) h e = absurd h
+worded (JumpWhere test.NoneWaits l) h e = absurd h
+worded (Byte (bytes.Put to x)) h e = some_words (code_of (Byte (bytes.Put to x)) []) tt
+worded (Byte (bytes.Copy to from)) h e = some_words (code_of (Byte (bytes.Copy to from)) []) tt
+worded (Byte (bytes.Xor to a b)) h e = absurd h
+worded (Word op) h e = word_words op h
+worded (Call l) h e = absurd h
+worded Return h e = absurd h
+worded (CyclePoll l) h e = absurd h
+worded (Compare op) h e = absurd h
+worded (Start n) h e = absurd h
+worded (AdcPoll l) h e = absurd h
+worded (Bit op) h e = absurd h
+worded (Device op) h e = absurd h
+worded (Eeprom op) h e = absurd h
+worded (Table values l) h e = absurd h
+
+inside : (p : BytePrim) → asked_by p ≢ ask.Nothing → 0 + leave_count p ≤ cycle_count p
+inside (CyclePoll l) ne = lit≤ tt
+inside (AdcPoll l) ne = lit≤ tt
+inside (Start n) ne = absurd (ne refl)
+inside (Label l) ne = absurd (ne refl)
+inside (Jump l) ne = absurd (ne refl)
+inside (Call l) ne = absurd (ne refl)
+inside Return ne = absurd (ne refl)
+inside (JumpWhere by l) ne = absurd (ne refl)
+inside (Bit op) ne = absurd (ne refl)
+inside (Byte op) ne = absurd (ne refl)
+inside (Word op) ne = absurd (ne refl)
+inside (Compare op) ne = absurd (ne refl)
+inside (Device op) ne = absurd (ne refl)
+inside (Eeprom op) ne = absurd (ne refl)
+inside (Table values l) ne = absurd (ne refl)
+
+-- none that is admitted asks
+quiet : (p : BytePrim) → Admits p → asked_by p ≡ ask.Nothing
+quiet (Label l) h = refl
+quiet (Jump l) h = refl
+quiet (JumpWhere by l) h = refl
+quiet (Byte op) h = refl
+quiet (Word op) h = refl
+quiet (Call l) h = refl
+quiet Return h = refl
+quiet (CyclePoll l) h = absurd h
+quiet (Compare op) h = refl
+quiet (Start n) h = refl
+quiet (AdcPoll l) h = absurd h
+quiet (Bit op) h = refl
+quiet (Device op) h = refl
+quiet (Eeprom op) h = refl
+quiet (Table values l) h = refl
+
+module _ (lay : Layout) (m : AvrState) (s : Bytes) (st : StandsAt lay.places m s) where
+  abbrev Ready : BytePrim → Type 0
+  Ready p = IsReady avr_target lay s p
+
+  word_goes : (op : WordOp) → Ready (Word op) → law.Goes lay m s (Word op)
+  word_goes (words.Move to (source.Cells a)) ready = law.move_cells lay m s to a ready st
+  word_goes (words.Move to (source.Number low high)) ready = law.move_number lay m s to low high ready st
+  word_goes (words.Increment to) ready = law.increment lay m s to ready st
+  word_goes (words.Decrement to) ready = law.decrement lay m s to ready st
+  word_goes (words.Add to a (source.Cells b)) ready = law.add_cells lay m s to a b ready st
+  word_goes (words.Add to a (source.Number low high)) ready = law.add_number lay m s to a low high ready st
+  word_goes (words.Subtract to (source.Cells a) (source.Cells b)) ready = law.subtract_cells_cells lay m s to a b ready st
+  word_goes (words.Subtract to (source.Cells a) (source.Number low high)) ready = law.subtract_cells_number lay m s to a low high ready st
+  word_goes (words.Subtract to (source.Number low high) (source.Cells b)) ready = law.subtract_number_cells lay m s to low high b ready st
+  word_goes (words.Subtract to (source.Number low high) (source.Number low2 high2)) ready =
+      law.subtract_number_number lay m s to low high low2 high2 ready st
+  word_goes (words.NegateIf to sign) ready = absurd ready.admitted
+  word_goes words.MultiplyStep ready = absurd ready.admitted
+  word_goes words.DivideStep ready = absurd ready.admitted
+
+  plainly : (p : BytePrim) → Ready p → slice_index lay.places (act lay.code p s false no_reading).next.place < 8192 → law.Goes lay m s p
+  plainly (Label l) ready low = law.label lay m s l ready st
+  plainly (Jump l) ready low = law.jump lay m s l ready st
+  plainly (JumpWhere test.LoopsOn l) ready low = law.loops_on lay m s l ready low st
+  plainly (JumpWhere (test.Flag k is) l) ready low = law.flag_jump lay m s k is l ready low st
+  plainly (JumpWhere (test.Bit from is) l) ready low = absurd ready.admitted
+  plainly (JumpWhere test.NoByte l) ready low = absurd ready.admitted
+  plainly (JumpWhere test.Sends l) ready low = absurd ready.admitted
+  plainly (JumpWhere test.Writes l) ready low = absurd ready.admitted
+  plainly (JumpWhere test.NoneWaits l) ready low = absurd ready.admitted
+  plainly (Byte (bytes.Put to x)) ready low = law.put_byte lay m s to x ready st
+  plainly (Byte (bytes.Copy to from)) ready low = law.copy_byte lay m s to from ready st
+  plainly (Byte (bytes.Xor to a b)) ready low = absurd ready.admitted
+  plainly (Word op) ready low = word_goes op ready
+  plainly (Call l) ready low = absurd ready.admitted
+  plainly Return ready low = absurd ready.admitted
+  plainly (CyclePoll l) ready low = absurd ready.admitted
+  plainly (Compare op) ready low = absurd ready.admitted
+  plainly (Start n) ready low = absurd ready.admitted
+  plainly (AdcPoll l) ready low = absurd ready.admitted
+  plainly (Bit op) ready low = absurd ready.admitted
+  plainly (Device op) ready low = absurd ready.admitted
+  plainly (Eeprom op) ready low = absurd ready.admitted
+  plainly (Table values l) ready low = absurd ready.admitted
+
+pub avr_law : MachineLaw avr_target
+avr_law = record {
+  plain = λ lay m s p ready q low st. plainly lay m s st p ready low;
+  enters = λ lay m s p ready ne st. absurd (ne (quiet p ready.admitted));
+  asks = λ lay m s p ready ne st. absurd (ne (quiet p ready.admitted));
+  waits = λ lay m s p ready ne st. absurd (ne (quiet p ready.admitted));
+  leaves = λ lay m s p r legal ready ne low st. absurd (ne (quiet p ready.admitted));
+  sized = λ p place labels h. code_length (code_of p labels) ∙ same_size p labels h;
+  worded = worded;
+  within = inside;
+  shown = λ places p m s st. st.shows;
+}
