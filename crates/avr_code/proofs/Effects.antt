@@ -405,7 +405,7 @@ module _ (env : Env) (m : AvrState) (v : View) (h : Sees m v) where
       }) (le-ltb a 32 (omega (arith, lo))) (le-ltb a 96 lo)
       ∙ ap (λ s. after s Next 2) (ram_taken a x lo hi)
 
-  sees_ram : (a x : ℕ) → 96 ≤ a → a < 1120 → Sees (record m { sram = slice_set m.sram (a - 96) x }) (record v { cells = changed v.cells a x })
+  pub sees_ram : (a x : ℕ) → 96 ≤ a → a < 1120 → Sees (record m { sram = slice_set m.sram (a - 96) x }) (record v { cells = changed v.cells a x })
   sees_ram a x lo hi =
       let within : a - 96 < length m.sram = omega (arith, lo, hi, h.sram) in
       record {

@@ -6,4 +6,5 @@ pub mod Paths
 pub mod Standing
 pub mod Sums
 pub mod Primitives
+pub mod Control
 pub mod Whole

@@ -180,7 +180,7 @@ flag_value : (c : AvrState) (k : FlagKind) (o : Option Flag) → IsOfKind o k �
 flag_value c k None fits has = absurd fits
 flag_value c k (Some f) fits has = ap (λ j. flag c (status_bit j)) (sym fits) ∙ has
 
-flag_kept : (c : AvrState) (place cycles : ℕ) (o : Option Flag) → HasFlag c o → HasFlag (at_place c place cycles) o
+pub flag_kept : (c : AvrState) (place cycles : ℕ) (o : Option Flag) → HasFlag c o → HasFlag (at_place c place cycles) o
 flag_kept c place cycles None has = has
 flag_kept c place cycles (Some f) has = has
 
