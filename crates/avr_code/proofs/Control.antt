@@ -42,11 +42,11 @@ use Rattle.avr_code.proofs.Steps.{Steps, env_of, settled_by, step_is, ask_is}
 use Rattle.avr_code.proofs.View.{View, see, put, changed, bare, moved, Sees, sees_moved, sees_core, sees_put}
 use Rattle.avr_code.proofs.Walk.{HasCode, code_held}
 
-abbrev WentTo : AvrState → ℕ → Option (Went AvrState)
+abbrev pub WentTo : AvrState → ℕ → Option (Went AvrState)
 WentTo next c = Some (record { next = next; cycles = c; poll = NoPoll; sent = [] })
 
 -- the step of an instruction that asks nobody
-one_step : (flash : List ℕ) (m next : AvrState) (i : AvrInsn) (c : ℕ) → m.place < 8192 → insn_at mega16 flash m.place ≡ Some i → obstacle mega16 i m ≡ None →
+pub one_step : (flash : List ℕ) (m next : AvrState) (i : AvrInsn) (c : ℕ) → m.place < 8192 → insn_at mega16 flash m.place ≡ Some i → obstacle mega16 i m ≡ None →
     insn_ask i m.devices ≡ ask.Nothing → settled_by flash (m.place + size_of i) (exec mega16 (env_of false no_reading) i m.place m) ≡ WentTo next c →
     Steps flash m next c
 one_step flash m next i c low stands free quiet e = record {
@@ -55,11 +55,11 @@ one_step flash m next i c low stands free quiet e = record {
 }
 
 module _ (flash : List ℕ) (T : AvrState → Type 0) where
-  then_step : (m next : AvrState) (c left : ℕ) → Steps flash m next c → Leads (steps_over (avr_step mega16) flash) T next left [] →
+  pub then_step : (m next : AvrState) (c left : ℕ) → Steps flash m next c → Leads (steps_over (avr_step mega16) flash) T next left [] →
       Leads (steps_over (avr_step mega16) flash) T m (c + left) []
   then_step m next c left s further = on (record { next = next; cycles = c; poll = NoPoll; sent = [] }) left s.asks s.is (omega arith) further
 
-  from_step : (m next : AvrState) (c : ℕ) → Steps flash m next c → T next →
+  pub from_step : (m next : AvrState) (c : ℕ) → Steps flash m next c → T next →
       (ask_of (steps_over (avr_step mega16) flash) m ≡ ask.Nothing)
       × LeadsFrom (steps_over (avr_step mega16) flash) T (steps_over (avr_step mega16) flash m false no_reading) c []
   from_step m next c s t = (

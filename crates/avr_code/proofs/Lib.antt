@@ -7,4 +7,5 @@ pub mod Standing
 pub mod Sums
 pub mod Primitives
 pub mod Control
+pub mod Polling
 pub mod Whole

@@ -19,11 +19,16 @@ use Rattle.byte_code.specs.declared.state.Bytes.{Bytes}
 use Rattle.byte_code.specs.Machine.{act, asked_by}
 use Rattle.avr_mach.specs.declared.insn.AvrInsn.{AvrInsn}
 use Rattle.avr_mach.specs.declared.state.AvrState.{AvrState}
+use Rattle.avr_mach.specs.Step.{avr_step}
 use Rattle.avr_mach.specs.Words.{size_of, first_word, second_word}
-use Rattle.target_core.specs.Law.{MachineLaw, IsReady, Layout, has_words}
+use Rattle.avr_devices.specs.Part.{mega16}
+use Rattle.chip_tables.specs.declared.outside.PinReading.{PinReading}
+use Rattle.target_core.specs.Law.{MachineLaw, IsReady, Layout, LeadsFrom, here, has_words}
 use Rattle.avr_code.specs.Code.{Piece, insn_of, words_by, words_of, size_in, code_of, word_count, cycle_count}
 use Rattle.avr_code.specs.Stands.{StandsAt}
 use Rattle.avr_code.specs.Target.{Admits, AdmitsWord, leave_count, avr_target}
+use Rattle.avr_code.proofs.Control as control
+use Rattle.avr_code.proofs.Polling as polling
 use Rattle.avr_code.proofs.Primitives as law
 use Rattle.avr_code.proofs.Walk.{sizes}
 
@@ -52,9 +57,9 @@ same_size (JumpWhere test.Writes l) labels h = absurd h
 same_size (JumpWhere test.NoneWaits l) labels h = absurd h
 same_size (Byte op) labels h = refl
 same_size (Word op) labels h = refl
-same_size (Call l) labels h = absurd h
-same_size Return labels h = absurd h
-same_size (CyclePoll l) labels h = absurd h
+same_size (Call l) labels h = refl
+same_size Return labels h = refl
+same_size (CyclePoll l) labels h = refl
 same_size (Compare op) labels h = absurd h
 same_size (Start n) labels h = absurd h
 same_size (AdcPoll l) labels h = absurd h
@@ -102,9 +107,9 @@ worded (Byte (bytes.Put to x)) h e = some_words (code_of (Byte (bytes.Put to x))
 worded (Byte (bytes.Copy to from)) h e = some_words (code_of (Byte (bytes.Copy to from)) []) tt
 worded (Byte (bytes.Xor to a b)) h e = absurd h
 worded (Word op) h e = word_words op h
-worded (Call l) h e = absurd h
-worded Return h e = absurd h
-worded (CyclePoll l) h e = absurd h
+worded (Call l) h e = lit< tt
+worded Return h e = lit< tt
+worded (CyclePoll l) h e = lit< tt
 worded (Compare op) h e = absurd h
 worded (Start n) h e = absurd h
 worded (AdcPoll l) h e = absurd h
@@ -130,23 +135,23 @@ inside (Device op) ne = absurd (ne refl)
 inside (Eeprom op) ne = absurd (ne refl)
 inside (Table values l) ne = absurd (ne refl)
 
--- none that is admitted asks
-quiet : (p : BytePrim) → Admits p → asked_by p ≡ ask.Nothing
-quiet (Label l) h = refl
-quiet (Jump l) h = refl
-quiet (JumpWhere by l) h = refl
-quiet (Byte op) h = refl
-quiet (Word op) h = refl
-quiet (Call l) h = refl
-quiet Return h = refl
-quiet (CyclePoll l) h = absurd h
-quiet (Compare op) h = refl
-quiet (Start n) h = refl
-quiet (AdcPoll l) h = absurd h
-quiet (Bit op) h = refl
-quiet (Device op) h = refl
-quiet (Eeprom op) h = refl
-quiet (Table values l) h = refl
+-- of those that are admitted, the cycle poll alone asks
+poll_of : (p : BytePrim) → Admits p → asked_by p ≢ ask.Nothing → (l : ℕ) × (CyclePoll l ≡ p)
+poll_of (CyclePoll l) h ne = (l, refl)
+poll_of (AdcPoll l) h ne = absurd h
+poll_of (Start n) h ne = absurd (ne refl)
+poll_of (Label l) h ne = absurd (ne refl)
+poll_of (Jump l) h ne = absurd (ne refl)
+poll_of (Call l) h ne = absurd (ne refl)
+poll_of Return h ne = absurd (ne refl)
+poll_of (JumpWhere by l) h ne = absurd (ne refl)
+poll_of (Bit op) h ne = absurd (ne refl)
+poll_of (Byte op) h ne = absurd (ne refl)
+poll_of (Word op) h ne = absurd (ne refl)
+poll_of (Compare op) h ne = absurd (ne refl)
+poll_of (Device op) h ne = absurd (ne refl)
+poll_of (Eeprom op) h ne = absurd (ne refl)
+poll_of (Table values l) h ne = absurd (ne refl)
 
 module _ (lay : Layout) (m : AvrState) (s : Bytes) (st : StandsAt lay.places m s) where
   abbrev Ready : BytePrim → Type 0
@@ -168,38 +173,57 @@ module _ (lay : Layout) (m : AvrState) (s : Bytes) (st : StandsAt lay.places m s
   word_goes words.MultiplyStep ready = absurd ready.admitted
   word_goes words.DivideStep ready = absurd ready.admitted
 
-  plainly : (p : BytePrim) → Ready p → slice_index lay.places (act lay.code p s false no_reading).next.place < 8192 → law.Goes lay m s p
-  plainly (Label l) ready low = law.label lay m s l ready st
-  plainly (Jump l) ready low = law.jump lay m s l ready st
-  plainly (JumpWhere test.LoopsOn l) ready low = law.loops_on lay m s l ready low st
-  plainly (JumpWhere (test.Flag k is) l) ready low = law.flag_jump lay m s k is l ready low st
-  plainly (JumpWhere (test.Bit from is) l) ready low = absurd ready.admitted
-  plainly (JumpWhere test.NoByte l) ready low = absurd ready.admitted
-  plainly (JumpWhere test.Sends l) ready low = absurd ready.admitted
-  plainly (JumpWhere test.Writes l) ready low = absurd ready.admitted
-  plainly (JumpWhere test.NoneWaits l) ready low = absurd ready.admitted
-  plainly (Byte (bytes.Put to x)) ready low = law.put_byte lay m s to x ready st
-  plainly (Byte (bytes.Copy to from)) ready low = law.copy_byte lay m s to from ready st
-  plainly (Byte (bytes.Xor to a b)) ready low = absurd ready.admitted
-  plainly (Word op) ready low = word_goes op ready
-  plainly (Call l) ready low = absurd ready.admitted
-  plainly Return ready low = absurd ready.admitted
-  plainly (CyclePoll l) ready low = absurd ready.admitted
-  plainly (Compare op) ready low = absurd ready.admitted
-  plainly (Start n) ready low = absurd ready.admitted
-  plainly (AdcPoll l) ready low = absurd ready.admitted
-  plainly (Bit op) ready low = absurd ready.admitted
-  plainly (Device op) ready low = absurd ready.admitted
-  plainly (Eeprom op) ready low = absurd ready.admitted
-  plainly (Table values l) ready low = absurd ready.admitted
+  plainly : (p : BytePrim) → Ready p → asked_by p ≡ ask.Nothing → slice_index lay.places (act lay.code p s false no_reading).next.place < 8192 → law.Goes lay m s p
+  plainly (Label l) ready q low = law.label lay m s l ready st
+  plainly (Jump l) ready q low = law.jump lay m s l ready st
+  plainly (JumpWhere test.LoopsOn l) ready q low = law.loops_on lay m s l ready low st
+  plainly (JumpWhere (test.Flag k is) l) ready q low = law.flag_jump lay m s k is l ready low st
+  plainly (JumpWhere (test.Bit from is) l) ready q low = absurd ready.admitted
+  plainly (JumpWhere test.NoByte l) ready q low = absurd ready.admitted
+  plainly (JumpWhere test.Sends l) ready q low = absurd ready.admitted
+  plainly (JumpWhere test.Writes l) ready q low = absurd ready.admitted
+  plainly (JumpWhere test.NoneWaits l) ready q low = absurd ready.admitted
+  plainly (Byte (bytes.Put to x)) ready q low = law.put_byte lay m s to x ready st
+  plainly (Byte (bytes.Copy to from)) ready q low = law.copy_byte lay m s to from ready st
+  plainly (Byte (bytes.Xor to a b)) ready q low = absurd ready.admitted
+  plainly (Word op) ready q low = word_goes op ready
+  plainly (Call l) ready q low = control.call lay m s l ready st
+  plainly Return ready q low = control.return lay m s ready st
+  plainly (CyclePoll l) ready q low = absurd (cc q)
+  plainly (Compare op) ready q low = absurd ready.admitted
+  plainly (Start n) ready q low = absurd ready.admitted
+  plainly (AdcPoll l) ready q low = absurd ready.admitted
+  plainly (Bit op) ready q low = absurd ready.admitted
+  plainly (Device op) ready q low = absurd ready.admitted
+  plainly (Eeprom op) ready q low = absurd ready.admitted
+  plainly (Table values l) ready q low = absurd ready.admitted
+
+  asks : (p : BytePrim) → Ready p → asked_by p ≢ ask.Nothing → ask_of (steps_over (avr_step mega16) lay.flash) m ≡ asked_by p
+  asks p ready ne =
+      let q = poll_of p ready.admitted ne in
+      subst (λ p. Ready p → ask_of (steps_over (avr_step mega16) lay.flash) m ≡ asked_by p) q.1 (λ ready. polling.asks lay m s q.0 ready st) ready
+
+  waits : (p : BytePrim) → Ready p → asked_by p ≢ ask.Nothing →
+      LeadsFrom (steps_over (avr_step mega16) lay.flash) (λ m'. StandsAt lay.places m' s) (steps_over (avr_step mega16) lay.flash m false no_reading) 4 []
+  waits p ready ne =
+      let q = poll_of p ready.admitted ne in
+      polling.waits lay m s q.0 (subst Ready (sym q.1) ready) st
+
+  leaves : (p : BytePrim) (r : PinReading) → Ready p → asked_by p ≢ ask.Nothing →
+      LeadsFrom (steps_over (avr_step mega16) lay.flash) (λ m'. StandsAt lay.places m' (act lay.code p s true r).next)
+      (steps_over (avr_step mega16) lay.flash m true r) (leave_count p) []
+  leaves p r ready ne =
+      let q = poll_of p ready.admitted ne in
+      subst (λ p. Ready p → LeadsFrom (steps_over (avr_step mega16) lay.flash) (λ m'. StandsAt lay.places m' (act lay.code p s true r).next)
+      (steps_over (avr_step mega16) lay.flash m true r) (leave_count p) []) q.1 (λ ready. polling.leaves lay m s q.0 ready st r) ready
 
 pub avr_law : MachineLaw avr_target
 avr_law = record {
-  plain = λ lay m s p ready q low st. plainly lay m s st p ready low;
-  enters = λ lay m s p ready ne st. absurd (ne (quiet p ready.admitted));
-  asks = λ lay m s p ready ne st. absurd (ne (quiet p ready.admitted));
-  waits = λ lay m s p ready ne st. absurd (ne (quiet p ready.admitted));
-  leaves = λ lay m s p r legal ready ne low st. absurd (ne (quiet p ready.admitted));
+  plain = λ lay m s p ready q low st. plainly lay m s st p ready q low;
+  enters = λ lay m s p ready ne st. here st;
+  asks = λ lay m s p ready ne st. asks lay m s st p ready ne;
+  waits = λ lay m s p ready ne st. waits lay m s st p ready ne;
+  leaves = λ lay m s p r legal ready ne low st. leaves lay m s st p r ready ne;
   sized = λ p place labels h. code_length (code_of p labels) ∙ same_size p labels h;
   worded = worded;
   within = inside;

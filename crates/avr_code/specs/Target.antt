@@ -51,16 +51,17 @@ AdmitsWord (words.NegateIf to sign) = ⊥
 AdmitsWord words.MultiplyStep = ⊥
 AdmitsWord words.DivideStep = ⊥
 
--- jumps but those by a bit or a device, bytes and words. Not yet: the start, the polls, bits, the steps of products and quotients, comparisons, devices and tables.
+-- The cycle poll, calls, jumps but those by a bit or a device, bytes and words. Not yet: the start, bits, exclusive ors, the steps of products and
+-- quotients, comparisons, devices and tables.
 abbrev pub Admits : BytePrim → Type 0
 Admits (Label l) = Unit {0}
 Admits (Jump l) = Unit {0}
 Admits (JumpWhere by l) = AdmitsTest by
 Admits (Byte op) = AdmitsByte op
 Admits (Word op) = AdmitsWord op
-Admits (Call l) = ⊥
-Admits Return = ⊥
-Admits (CyclePoll l) = ⊥
+Admits (Call l) = Unit {0}
+Admits Return = Unit {0}
+Admits (CyclePoll l) = Unit {0}
 Admits (Compare op) = ⊥
 Admits (Start n) = ⊥
 Admits (AdcPoll l) = ⊥
