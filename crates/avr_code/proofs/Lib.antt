@@ -9,3 +9,4 @@ pub mod Primitives
 pub mod Control
 pub mod Polling
 pub mod Whole
+pub mod Resets

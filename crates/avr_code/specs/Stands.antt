@@ -54,3 +54,10 @@ pub record StandsAt (places : List ℕ) (m : AvrState) (s : Bytes) : Type 0 wher
   pub started : s.started ≡ true → IsStarted m
   pub flag : HasFlag m s.store.flag
   pub back : s.started ≡ true → HasReturn places m s.open_call
+
+-- The cells are those of a machine with these registers and this RAM, whatever they hold.
+pub record HasCells (cells regs sram : List ℕ) : Type 0 where
+  pub all : length cells ≡ SRAM_END
+  pub bytes : (a : ℕ) → slice_index cells a < 256
+  pub file : (r : ℕ) → r < IO_FIRST → slice_index regs r ≡ slice_index cells r
+  pub ram : (a : ℕ) → SRAM_FIRST ≤ a → a < SRAM_END → slice_index sram (a - SRAM_FIRST) ≡ slice_index cells a
