@@ -5,6 +5,7 @@ pub mod Effects
 pub mod Paths
 pub mod Standing
 pub mod Sums
+pub mod Compares
 pub mod Primitives
 pub mod Control
 pub mod Polling

@@ -1,7 +1,7 @@
 -- Each primitive that is admitted leads to what the byte machine comes to.
 use Rattle.std.proofs.Common.{◌≡◌, ◌≢◌, ℕ, zero, suc, ◌+◌, ◌-◌, ◌*◌, ◌/◌, ◌%◌, ◌^◌, ◌<◌, ◌≤◌, ◌⊎◌, inl, inr, Bool, true, false, List, [], ◌∷◌, ◌++◌, length, Option, Some, None, refl, sym, ap, ap₂, ◌∙◌, subst, arith, lit<, lit≤}
 use Rattle.std.proofs.lemmas.Bool.{lt-ltb, le-ltb, true≢false, ltb-true, ltb-false}
-use Rattle.std.specs.Prelude.{◌==◌, not, nat_lt, if◌then◌else◌, slice_index}
+use Rattle.std.specs.Prelude.{◌==◌, ◌&&◌, ◌||◌, not, nat_le, nat_lt, if◌then◌else◌, slice_index}
 use Rattle.chip_tables.specs.Bits.{as_bit}
 use Rattle.chip_tables.specs.Outside.{no_reading}
 use Rattle.chip_tables.specs.Scratch.{avr_scratch}
@@ -16,20 +16,21 @@ use Rattle.byte_code.specs.declared.prim.ByteOp.TheVariants as bytes
 use Rattle.byte_code.specs.declared.prim.WordOp.TheVariants as words
 use Rattle.byte_code.specs.declared.prim.WordSource.{WordSource}
 use Rattle.byte_code.specs.declared.prim.WordSource.TheVariants as source
+use Rattle.byte_code.specs.declared.prim.CompareOp.TheVariants as compares
 use Rattle.byte_code.specs.declared.prim.FlagKind.{FlagKind}
 use Rattle.byte_code.specs.declared.prim.FlagKind.TheVariants as kind
 use Rattle.chip_tables.specs.declared.scratch.Scratch.{Scratch}
 use Rattle.byte_code.specs.declared.store.Flag.{Flag}
 use Rattle.byte_code.specs.declared.store.Store.{Store}
 use Rattle.byte_code.specs.declared.state.Bytes.{Bytes}
-use Rattle.byte_code.specs.Store.{cell, with_cell, word_at, word_from, with_word}
+use Rattle.byte_code.specs.Store.{cell, with_cell, word_at, word_from, with_word, lifted}
 use Rattle.byte_code.specs.Machine.{act, asked_by, label_place, goes_to}
 use Rattle.byte_code.specs.Table.{plain, same, value_of}
 use Rattle.byte_code.specs.Counts.{IsOfKind}
 use Rattle.avr_mach.specs.declared.insn.AvrInsn.{AvrInsn}
 use Rattle.avr_mach.specs.declared.insn.AvrInsn.TheVariants as insn
 use Rattle.avr_mach.specs.declared.state.AvrState.{AvrState}
-use Rattle.avr_mach.specs.Arithmetic.{difference, with_result}
+use Rattle.avr_mach.specs.Arithmetic.{difference, differ, with_result}
 use Rattle.avr_mach.specs.Insn.{FieldsFit}
 use Rattle.avr_mach.specs.State.{flag}
 use Rattle.avr_mach.specs.Step.{avr_step, at_place}
@@ -39,6 +40,7 @@ use Rattle.target_core.specs.Law.{Leads, LeadsFrom, Moves, IsReady, Layout, HasA
 use Rattle.avr_code.specs.Code.{Piece, Plain, Loads, Stores, insn_of, code_of, words_of, size_in, word_count, cycle_count, jump_on, status_bit}
 use Rattle.avr_code.specs.Stands.{IsCell, HasFlag, StandsAt}
 use Rattle.avr_code.specs.Target.{IsWord, ReadsWord, avr_target}
+use Rattle.avr_code.proofs.Compares.{equal_words, below_words, less_words}
 use Rattle.avr_code.proofs.Effects.{InsnFits, PieceFits, result}
 use Rattle.avr_code.proofs.Paths.{Paths, At, Fork, Near, Lost, bump, paths, AllGood, AllPiecesFit, good_paths}
 use Rattle.avr_code.proofs.Standing.{Has, Alike, ViewStands, view_of, view_seen, to_view, from_view, alike, has_same, has_cell, has_word}
@@ -196,6 +198,27 @@ counted v = moved (result v (λ c. with_result c 21 ((see v 21 + 255) % 256) (se
 -- the place of the byte state does not count
 elsewhere : (places : List ℕ) (w : View) (s : Bytes) (q : ℕ) → Has places w s → Has places w (record s { place = q })
 elsewhere places w s q h = record { holds = h.holds; started = h.started; flag = h.flag; back = h.back }
+
+six_on : (n a b c d p q : ℕ) → n ≡ p → q ≡ p + (a + (b + (c + (d + (1 + (1 + 0)))))) → n + a + b + c + d + 1 + 1 ≡ q
+six_on n a b c d p q e f = omega (arith, e, f)
+
+abbrev zero_of : ℕ → ℕ → ℕ → ℕ → Bool
+zero_of x z y w = (difference x y 0 == 0) && (difference z w (as_bit (nat_lt x (y + 0))) == 0)
+
+equal_flag : (a b c d x z y w : ℕ) → x ≡ a → z ≡ b → y ≡ c → w ≡ d → a < 256 → b < 256 → c < 256 → d < 256 →
+    zero_of x z y w ≡ (a + b * 256 == c + d * 256)
+equal_flag a b c d x z y w e f g h ha hb hc hd =
+    ap₂ (λ x z. zero_of x z y w) e f ∙ ap₂ (λ y w. zero_of a b y w) g h ∙ equal_words a b c d ha hb hc hd
+
+abbrev sign_of : ℕ → ℕ → ℕ → ℕ → Bool
+sign_of x z y w =
+    let n = nat_le 128 (difference z w (as_bit (nat_lt x (y + 0)))) in
+    differ n (nat_le 128 z && (not (nat_le 128 w) && not n) || not (nat_le 128 z) && (nat_le 128 w && n))
+
+less_flag : (a b c d x z y w : ℕ) → x ≡ a → z ≡ b → y ≡ c → w ≡ d → a < 256 → b < 256 → c < 256 → d < 256 →
+    sign_of x z y w ≡ nat_lt (lifted (a + b * 256)) (lifted (c + d * 256))
+less_flag a b c d x z y w e f g h ha hb hc hd =
+    ap₂ (λ x z. sign_of x z y w) e f ∙ ap₂ (λ y w. sign_of a b y w) g h ∙ less_words a b c d ha hb hc hd
 
 module _ (lay : Layout) (m : AvrState) (s : Bytes) where
   abbrev Ready : BytePrim → Type 0
@@ -504,3 +527,69 @@ module _ (lay : Layout) (m : AvrState) (s : Bytes) where
           let named = ready.label l refl in
           coded (JumpWhere (test.Flag k false) l) (Plain (insn.Brbs (status_bit k) 2)) (Plain (insn.Jmp (slice_index lay.labels l)) ∷ []) ready refl refl refl
           ((status_low k, lit< tt), (named.1, tt)) st (fork false named ready.fits.1 ready.next low)
+
+  pub less_cells : (a : ℕ) (b : ℕ) → Ready (Compare (compares.Less a (source.Cells b))) → StandsAt lay.places m s → Goes (Compare (compares.Less a (source.Cells b)))
+  less_cells a b ready st = coded (Compare (compares.Less a (source.Cells b))) (Loads 16 a) (Loads 17 (a + 1) ∷ Loads 18 b ∷ Loads 19 (b + 1) ∷ Plain (insn.Cp 16 18) ∷ Plain (insn.Cpc 17 19) ∷ []) ready refl refl refl
+      ((lit< tt, ready.admitted.0.0), ((lit< tt, ready.admitted.0.1), ((lit< tt, ready.admitted.1.0), ((lit< tt, ready.admitted.1.1), ((lit< tt, lit< tt), ((lit< tt, lit< tt), tt)))))) st
+      (λ v h. (
+        le_more _,
+        record {
+          has = has_same lay.places v _ s (alike v _ refl (λ port. refl) refl refl refl refl) h.has
+              (Some (record { kind = kind.Less; value = nat_lt (lifted (word_at s.store a)) (lifted (word_from s.store (source.Cells b))) })) (suc s.place) refl
+              (less_flag (cell s.store a) (cell s.store (a + 1)) (cell s.store b) (cell s.store (b + 1)) _ _ _ _ (h.has.holds.cells a ready.admitted.0.0) (h.has.holds.cells (a + 1) ready.admitted.0.1) (h.has.holds.cells b ready.admitted.1.0) (h.has.holds.cells (b + 1) ready.admitted.1.1) (h.has.holds.bytes a) (h.has.holds.bytes (a + 1)) (h.has.holds.bytes b) (h.has.holds.bytes (b + 1)));
+          at = six_on v.core.place (load_size 16 a) (load_size 17 (a + 1)) (load_size 18 b) (load_size 19 (b + 1)) _ _ h.at ready.next;
+        },
+      ))
+
+  pub less_number : (a : ℕ) (b_low b_high : ℕ) → Ready (Compare (compares.Less a (source.Number b_low b_high))) → StandsAt lay.places m s → Goes (Compare (compares.Less a (source.Number b_low b_high)))
+  less_number a b_low b_high ready st = coded (Compare (compares.Less a (source.Number b_low b_high))) (Loads 16 a) (Loads 17 (a + 1) ∷ Plain (insn.Ldi 18 b_low) ∷ Plain (insn.Ldi 19 b_high) ∷ Plain (insn.Cp 16 18) ∷ Plain (insn.Cpc 17 19) ∷ []) ready refl refl refl
+      ((lit< tt, ready.admitted.0.0), ((lit< tt, ready.admitted.0.1), ((lit≤ tt, lit< tt, ready.admitted.1.0), ((lit≤ tt, lit< tt, ready.admitted.1.1), ((lit< tt, lit< tt), ((lit< tt, lit< tt), tt)))))) st
+      (λ v h. (
+        le_more _,
+        record {
+          has = has_same lay.places v _ s (alike v _ refl (λ port. refl) refl refl refl refl) h.has
+              (Some (record { kind = kind.Less; value = nat_lt (lifted (word_at s.store a)) (lifted (word_from s.store (source.Number b_low b_high))) })) (suc s.place) refl
+              (less_flag (cell s.store a) (cell s.store (a + 1)) b_low b_high _ _ _ _ (h.has.holds.cells a ready.admitted.0.0) (h.has.holds.cells (a + 1) ready.admitted.0.1) refl refl (h.has.holds.bytes a) (h.has.holds.bytes (a + 1)) ready.admitted.1.0 ready.admitted.1.1);
+          at = six_on v.core.place (load_size 16 a) (load_size 17 (a + 1)) 1 1 _ _ h.at ready.next;
+        },
+      ))
+
+  pub equal_cells : (a : ℕ) (b : ℕ) → Ready (Compare (compares.Equal a (source.Cells b))) → StandsAt lay.places m s → Goes (Compare (compares.Equal a (source.Cells b)))
+  equal_cells a b ready st = coded (Compare (compares.Equal a (source.Cells b))) (Loads 16 a) (Loads 17 (a + 1) ∷ Loads 18 b ∷ Loads 19 (b + 1) ∷ Plain (insn.Cp 16 18) ∷ Plain (insn.Cpc 17 19) ∷ []) ready refl refl refl
+      ((lit< tt, ready.admitted.0.0), ((lit< tt, ready.admitted.0.1), ((lit< tt, ready.admitted.1.0), ((lit< tt, ready.admitted.1.1), ((lit< tt, lit< tt), ((lit< tt, lit< tt), tt)))))) st
+      (λ v h. (
+        le_more _,
+        record {
+          has = has_same lay.places v _ s (alike v _ refl (λ port. refl) refl refl refl refl) h.has
+              (Some (record { kind = kind.Equal; value = word_at s.store a == word_from s.store (source.Cells b) })) (suc s.place) refl
+              (equal_flag (cell s.store a) (cell s.store (a + 1)) (cell s.store b) (cell s.store (b + 1)) _ _ _ _ (h.has.holds.cells a ready.admitted.0.0) (h.has.holds.cells (a + 1) ready.admitted.0.1) (h.has.holds.cells b ready.admitted.1.0) (h.has.holds.cells (b + 1) ready.admitted.1.1) (h.has.holds.bytes a) (h.has.holds.bytes (a + 1)) (h.has.holds.bytes b) (h.has.holds.bytes (b + 1)));
+          at = six_on v.core.place (load_size 16 a) (load_size 17 (a + 1)) (load_size 18 b) (load_size 19 (b + 1)) _ _ h.at ready.next;
+        },
+      ))
+
+  pub equal_number : (a : ℕ) (b_low b_high : ℕ) → Ready (Compare (compares.Equal a (source.Number b_low b_high))) → StandsAt lay.places m s → Goes (Compare (compares.Equal a (source.Number b_low b_high)))
+  equal_number a b_low b_high ready st = coded (Compare (compares.Equal a (source.Number b_low b_high))) (Loads 16 a) (Loads 17 (a + 1) ∷ Plain (insn.Ldi 18 b_low) ∷ Plain (insn.Ldi 19 b_high) ∷ Plain (insn.Cp 16 18) ∷ Plain (insn.Cpc 17 19) ∷ []) ready refl refl refl
+      ((lit< tt, ready.admitted.0.0), ((lit< tt, ready.admitted.0.1), ((lit≤ tt, lit< tt, ready.admitted.1.0), ((lit≤ tt, lit< tt, ready.admitted.1.1), ((lit< tt, lit< tt), ((lit< tt, lit< tt), tt)))))) st
+      (λ v h. (
+        le_more _,
+        record {
+          has = has_same lay.places v _ s (alike v _ refl (λ port. refl) refl refl refl refl) h.has
+              (Some (record { kind = kind.Equal; value = word_at s.store a == word_from s.store (source.Number b_low b_high) })) (suc s.place) refl
+              (equal_flag (cell s.store a) (cell s.store (a + 1)) b_low b_high _ _ _ _ (h.has.holds.cells a ready.admitted.0.0) (h.has.holds.cells (a + 1) ready.admitted.0.1) refl refl (h.has.holds.bytes a) (h.has.holds.bytes (a + 1)) ready.admitted.1.0 ready.admitted.1.1);
+          at = six_on v.core.place (load_size 16 a) (load_size 17 (a + 1)) 1 1 _ _ h.at ready.next;
+        },
+      ))
+
+  pub below : (a n : ℕ) → Ready (Compare (compares.Below a n)) → StandsAt lay.places m s → Goes (Compare (compares.Below a n))
+  below a n ready st = coded (Compare (compares.Below a n)) (Loads 16 a) (Loads 17 (a + 1) ∷ Plain (insn.Cpi 16 n) ∷ Plain (insn.Cpc 17 1) ∷ []) ready refl refl refl
+      ((lit< tt, ready.admitted.0.0), ((lit< tt, ready.admitted.0.1), ((lit≤ tt, lit< tt, ready.admitted.1), ((lit< tt, lit< tt), tt)))) st
+      (λ v h. (
+        le_more _,
+        record {
+          has = has_same lay.places v _ s (alike v _ refl (λ port. refl) refl refl refl refl) h.has
+              (Some (record { kind = kind.Below; value = nat_lt (word_at s.store a) n })) (suc s.place) refl
+              (ap₂ (λ x y. nat_lt y (v.work 1 + as_bit (nat_lt x (n + 0)))) (h.has.holds.cells a ready.admitted.0.0) (h.has.holds.cells (a + 1) ready.admitted.0.1)
+              ∙ below_words (cell s.store a) (cell s.store (a + 1)) n (v.work 1) (h.has.started ready.begins).zero (h.has.holds.bytes a) ready.admitted.1);
+          at = four_on v.core.place (load_size 16 a) (load_size 17 (a + 1)) 1 1 _ _ h.at ready.next;
+        },
+      ))

@@ -16,7 +16,7 @@ borrow_by : (x y : ℕ) (b : Bool) → nat_lt x y ≡ b → x < 256 → y ≤ 25
 borrow_by x y true e hx hy = let low = ltb-true x y e in omega (arith, low, hx, hy)
 borrow_by x y false e hx hy = let high = ltb-false x y e in omega (arith, high, hx, hy)
 
-borrow_is : (x y : ℕ) → x < 256 → y ≤ 256 → as_bit (nat_lt x y) ≡ (255 + y - x) / 256
+pub borrow_is : (x y : ℕ) → x < 256 → y ≤ 256 → as_bit (nat_lt x y) ≡ (255 + y - x) / 256
 borrow_is x y hx hy = borrow_by x y (nat_lt x y) refl hx hy
 
 -- the low byte of a sum, and the high one by the carry

@@ -15,6 +15,7 @@ use Rattle.byte_code.specs.declared.prim.WordOp.{WordOp}
 use Rattle.byte_code.specs.declared.prim.WordOp.TheVariants as words
 use Rattle.byte_code.specs.declared.prim.WordSource.{WordSource}
 use Rattle.byte_code.specs.declared.prim.WordSource.TheVariants as source
+use Rattle.byte_code.specs.declared.prim.CompareOp.TheVariants as compares
 use Rattle.byte_code.specs.declared.state.Bytes.{Bytes}
 use Rattle.byte_code.specs.Machine.{act, asked_by}
 use Rattle.avr_mach.specs.declared.insn.AvrInsn.{AvrInsn}
@@ -60,7 +61,7 @@ same_size (Word op) labels h = refl
 same_size (Call l) labels h = refl
 same_size Return labels h = refl
 same_size (CyclePoll l) labels h = refl
-same_size (Compare op) labels h = absurd h
+same_size (Compare op) labels h = refl
 same_size (Start n) labels h = absurd h
 same_size (AdcPoll l) labels h = absurd h
 same_size (Bit op) labels h = absurd h
@@ -110,7 +111,9 @@ worded (Word op) h e = word_words op h
 worded (Call l) h e = lit< tt
 worded Return h e = lit< tt
 worded (CyclePoll l) h e = lit< tt
-worded (Compare op) h e = absurd h
+worded (Compare (compares.Less a b)) h e = some_words (code_of (Compare (compares.Less a b)) []) tt
+worded (Compare (compares.Equal a b)) h e = some_words (code_of (Compare (compares.Equal a b)) []) tt
+worded (Compare (compares.Below a n)) h e = some_words (code_of (Compare (compares.Below a n)) []) tt
 worded (Start n) h e = absurd h
 worded (AdcPoll l) h e = absurd h
 worded (Bit op) h e = absurd h
@@ -190,7 +193,11 @@ module _ (lay : Layout) (m : AvrState) (s : Bytes) (st : StandsAt lay.places m s
   plainly (Call l) ready q low = control.call lay m s l ready st
   plainly Return ready q low = control.return lay m s ready st
   plainly (CyclePoll l) ready q low = absurd (cc q)
-  plainly (Compare op) ready q low = absurd ready.admitted
+  plainly (Compare (compares.Less a (source.Cells b))) ready q low = law.less_cells lay m s a b ready st
+  plainly (Compare (compares.Less a (source.Number low high))) ready q inside = law.less_number lay m s a low high ready st
+  plainly (Compare (compares.Equal a (source.Cells b))) ready q low = law.equal_cells lay m s a b ready st
+  plainly (Compare (compares.Equal a (source.Number low high))) ready q inside = law.equal_number lay m s a low high ready st
+  plainly (Compare (compares.Below a n)) ready q low = law.below lay m s a n ready st
   plainly (Start n) ready q low = absurd ready.admitted
   plainly (AdcPoll l) ready q low = absurd ready.admitted
   plainly (Bit op) ready q low = absurd ready.admitted

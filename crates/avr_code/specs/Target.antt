@@ -11,6 +11,8 @@ use Rattle.byte_code.specs.declared.prim.WordOp.{WordOp}
 use Rattle.byte_code.specs.declared.prim.WordOp.TheVariants as words
 use Rattle.byte_code.specs.declared.prim.WordSource.{WordSource}
 use Rattle.byte_code.specs.declared.prim.WordSource.TheVariants as source
+use Rattle.byte_code.specs.declared.prim.CompareOp.{CompareOp}
+use Rattle.byte_code.specs.declared.prim.CompareOp.TheVariants as compares
 use Rattle.runs.specs.Chip.{steps_over}
 use Rattle.avr_devices.specs.Part.{mega16}
 use Rattle.avr_mach.specs.declared.state.AvrState.{AvrState}
@@ -51,8 +53,13 @@ AdmitsWord (words.NegateIf to sign) = ⊥
 AdmitsWord words.MultiplyStep = ⊥
 AdmitsWord words.DivideStep = ⊥
 
--- The cycle poll, calls, jumps but those by a bit or a device, bytes and words. Not yet: the start, bits, exclusive ors, the steps of products and
--- quotients, comparisons, devices and tables.
+abbrev pub AdmitsCompare : CompareOp → Type 0
+AdmitsCompare (compares.Less a b) = IsWord a × ReadsWord b
+AdmitsCompare (compares.Equal a b) = IsWord a × ReadsWord b
+AdmitsCompare (compares.Below a n) = IsWord a × (n < 256)
+
+-- The cycle poll, calls, jumps but those by a bit or a device, bytes, words and comparisons. Not yet: the start, bits, exclusive ors, the steps of
+-- products and quotients, devices and tables.
 abbrev pub Admits : BytePrim → Type 0
 Admits (Label l) = Unit {0}
 Admits (Jump l) = Unit {0}
@@ -62,7 +69,7 @@ Admits (Word op) = AdmitsWord op
 Admits (Call l) = Unit {0}
 Admits Return = Unit {0}
 Admits (CyclePoll l) = Unit {0}
-Admits (Compare op) = ⊥
+Admits (Compare op) = AdmitsCompare op
 Admits (Start n) = ⊥
 Admits (AdcPoll l) = ⊥
 Admits (Bit op) = ⊥
