@@ -1,5 +1,5 @@
 -- Comparisons of words, byte by byte.
-use Rattle.std.proofs.Common.{◌≡◌, ◌≢◌, ℕ, ◌+◌, ◌-◌, ◌*◌, ◌/◌, ◌%◌, ◌<◌, ◌≤◌, ◌⊎◌, inl, inr, Bool, true, false, refl, sym, ap, ap₂, ◌∙◌, arith, eq-eqb}
+use Rattle.std.proofs.Common.{◌≡◌, ◌≢◌, ℕ, ◌+◌, ◌-◌, ◌*◌, ◌/◌, ◌<◌, ◌⊎◌, inl, inr, Bool, true, false, refl, sym, ap, ap₂, ◌∙◌, arith, eq-eqb}
 use Rattle.std.proofs.lemmas.Bool.{cases_eq, ne_eqb, lt-ltb, le-ltb, ltb-true, ltb-false, leb-true, leb-false}
 use Rattle.std.specs.Prelude.{◌==◌, ◌&&◌, ◌||◌, not, nat_lt, nat_le}
 use Rattle.chip_tables.specs.Bits.{as_bit}
@@ -52,21 +52,21 @@ overflow x y n = x && (not y && not n) || not x && (y && n)
 
 signs : (a b c d k : ℕ) (x y n : Bool) → a < 256 → b < 256 → c < 256 → d < 256 → k ≡ (255 + (c + 0) - a) / 256 → nat_le 128 b ≡ x → nat_le 128 d ≡ y →
     nat_le 128 (difference b d k) ≡ n → differ n (overflow x y n) ≡ nat_lt (lifted (a + b * 256)) (lifted (c + d * 256))
-signs a b c d k true true true ha hb hc hd e p q r = let p' = leb-true 128 b p in let q' = leb-true 128 d q in let r' = leb-true 128 (difference b d k) r in 
+signs a b c d k true true true ha hb hc hd e p q r = let p' = leb-true 128 b p in let q' = leb-true 128 d q in let r' = leb-true 128 (difference b d k) r in
     sym (lt-ltb (lifted (a + b * 256)) (lifted (c + d * 256)) (omega (arith, e, p', q', r', ha, hb, hc, hd)))
-signs a b c d k true true false ha hb hc hd e p q r = let p' = leb-true 128 b p in let q' = leb-true 128 d q in let r' = leb-false 128 (difference b d k) r in 
+signs a b c d k true true false ha hb hc hd e p q r = let p' = leb-true 128 b p in let q' = leb-true 128 d q in let r' = leb-false 128 (difference b d k) r in
     sym (le-ltb (lifted (a + b * 256)) (lifted (c + d * 256)) (omega (arith, e, p', q', r', ha, hb, hc, hd)))
-signs a b c d k true false true ha hb hc hd e p q r = let p' = leb-true 128 b p in let q' = leb-false 128 d q in let r' = leb-true 128 (difference b d k) r in 
+signs a b c d k true false true ha hb hc hd e p q r = let p' = leb-true 128 b p in let q' = leb-false 128 d q in let r' = leb-true 128 (difference b d k) r in
     sym (lt-ltb (lifted (a + b * 256)) (lifted (c + d * 256)) (omega (arith, e, p', q', r', ha, hb, hc, hd)))
-signs a b c d k true false false ha hb hc hd e p q r = let p' = leb-true 128 b p in let q' = leb-false 128 d q in let r' = leb-false 128 (difference b d k) r in 
+signs a b c d k true false false ha hb hc hd e p q r = let p' = leb-true 128 b p in let q' = leb-false 128 d q in let r' = leb-false 128 (difference b d k) r in
     sym (lt-ltb (lifted (a + b * 256)) (lifted (c + d * 256)) (omega (arith, e, p', q', r', ha, hb, hc, hd)))
-signs a b c d k false true true ha hb hc hd e p q r = let p' = leb-false 128 b p in let q' = leb-true 128 d q in let r' = leb-true 128 (difference b d k) r in 
+signs a b c d k false true true ha hb hc hd e p q r = let p' = leb-false 128 b p in let q' = leb-true 128 d q in let r' = leb-true 128 (difference b d k) r in
     sym (le-ltb (lifted (a + b * 256)) (lifted (c + d * 256)) (omega (arith, e, p', q', r', ha, hb, hc, hd)))
-signs a b c d k false true false ha hb hc hd e p q r = let p' = leb-false 128 b p in let q' = leb-true 128 d q in let r' = leb-false 128 (difference b d k) r in 
+signs a b c d k false true false ha hb hc hd e p q r = let p' = leb-false 128 b p in let q' = leb-true 128 d q in let r' = leb-false 128 (difference b d k) r in
     sym (le-ltb (lifted (a + b * 256)) (lifted (c + d * 256)) (omega (arith, e, p', q', r', ha, hb, hc, hd)))
-signs a b c d k false false true ha hb hc hd e p q r = let p' = leb-false 128 b p in let q' = leb-false 128 d q in let r' = leb-true 128 (difference b d k) r in 
+signs a b c d k false false true ha hb hc hd e p q r = let p' = leb-false 128 b p in let q' = leb-false 128 d q in let r' = leb-true 128 (difference b d k) r in
     sym (lt-ltb (lifted (a + b * 256)) (lifted (c + d * 256)) (omega (arith, e, p', q', r', ha, hb, hc, hd)))
-signs a b c d k false false false ha hb hc hd e p q r = let p' = leb-false 128 b p in let q' = leb-false 128 d q in let r' = leb-false 128 (difference b d k) r in 
+signs a b c d k false false false ha hb hc hd e p q r = let p' = leb-false 128 b p in let q' = leb-false 128 d q in let r' = leb-false 128 (difference b d k) r in
     sym (le-ltb (lifted (a + b * 256)) (lifted (c + d * 256)) (omega (arith, e, p', q', r', ha, hb, hc, hd)))
 
 -- the sign of a chain of two bytes

@@ -1,46 +1,37 @@
 -- Calls, returns and the cycle poll.
-use Rattle.std.proofs.Common.{◌≡◌, ◌≢◌, inl, ℕ, suc, ◌+◌, ◌-◌, ◌*◌, ◌/◌, ◌%◌, ◌<◌, ◌≤◌, Bool, true, false, List, [], ◌∷◌, length, Option, Some, None, refl, sym, ap, ap₂, ◌∙◌, subst, arith, lit<, lit≤, get_or-set_same}
+use Rattle.std.proofs.Common.{◌≡◌, inl, ℕ, ◌+◌, ◌-◌, ◌*◌, ◌/◌, ◌%◌, ◌<◌, ◌≤◌, false, List, [], ◌∷◌, Option, Some, None, refl, sym, ap, ◌∙◌, subst, arith, lit<, lit≤}
 use Rattle.std.proofs.lemmas.Bool.{lt-ltb, ne_eqb}
-use Rattle.std.specs.Prelude.{◌==◌, ◌&&◌, nat_lt, nat_le, if◌then◌else◌, slice_index, slice_set, IsSome}
-use Rattle.chip_tables.specs.Bits.{bit_of}
+use Rattle.std.specs.Prelude.{◌&&◌, nat_lt, nat_le, if◌then◌else◌, slice_index, slice_set, IsSome}
 use Rattle.chip_tables.specs.Outside.{no_reading}
-use Rattle.chip_tables.specs.declared.outside.Env.{Env}
-use Rattle.chip_tables.specs.declared.outside.PinReading.{PinReading}
-use Rattle.chip_tables.specs.declared.outside.Poll.TheVariants.{NoPoll, CycleReady, CycleNotReady, CycleStill}
+use Rattle.chip_tables.specs.declared.outside.Poll.TheVariants.{NoPoll}
 use Rattle.chip_tables.specs.declared.outside.StuckCause.TheVariants.{PastFlash, StackDepth}
 use Rattle.runs.specs.Chip.{steps_over}
 use Rattle.runs.specs.Run.{Went, ask_of}
 use Rattle.runs.specs.declared.ask.Ask.TheVariants as ask
 use Rattle.byte_code.specs.declared.prim.BytePrim.{BytePrim}
-use Rattle.byte_code.specs.declared.prim.BytePrim.TheVariants.{CyclePoll, Call, Return}
+use Rattle.byte_code.specs.declared.prim.BytePrim.TheVariants.{Call, Return}
 use Rattle.byte_code.specs.declared.state.Bytes.{Bytes}
-use Rattle.byte_code.specs.declared.store.Flag.{Flag}
 use Rattle.byte_code.specs.Machine.{act, label_place, returned}
 use Rattle.byte_code.specs.Table.{plain}
-use Rattle.avr_devices.specs.Device.{is_timing}
 use Rattle.avr_devices.specs.Part.{mega16}
 use Rattle.avr_mach.specs.declared.insn.AvrInsn.{AvrInsn}
 use Rattle.avr_mach.specs.declared.insn.AvrInsn.TheVariants as insn
 use Rattle.avr_mach.specs.declared.state.AvrState.{AvrState}
-use Rattle.avr_mach.specs.declared.state.Flow.TheVariants.{Next, To}
-use Rattle.avr_mach.specs.Access.{loaded}
 use Rattle.avr_mach.specs.Asks.{insn_ask}
-use Rattle.avr_mach.specs.Control.{obstacle, skip_if, with_call, return_place, far_obstacle}
+use Rattle.avr_mach.specs.Control.{obstacle, return_place, far_obstacle}
 use Rattle.avr_mach.specs.Exec.{exec}
-use Rattle.avr_mach.specs.Memory.{with_ram, ram_byte}
-use Rattle.avr_mach.specs.State.{After, after, reg, with_reg}
+use Rattle.avr_mach.specs.Memory.{with_ram}
 use Rattle.avr_mach.specs.Step.{avr_step, insn_at, at_place}
 use Rattle.avr_mach.specs.Words.{size_of}
 use Rattle.target_core.specs.Law.{Leads, here, on, LeadsFrom, Moves, IsReady, Layout}
-use Rattle.avr_code.specs.Code.{Piece, Plain, code_of, cycle_count, poll_code, size_in}
-use Rattle.avr_code.specs.Stands.{IsCell, HasFlag, HasReturn, StandsAt}
+use Rattle.avr_code.specs.Code.{Plain, cycle_count}
+use Rattle.avr_code.specs.Stands.{IsCell, HasReturn, StandsAt}
 use Rattle.avr_code.specs.Target.{avr_target}
 use Rattle.avr_code.proofs.Effects.{sees_ram}
-use Rattle.avr_code.proofs.Primitives.{flag_kept}
-use Rattle.avr_code.proofs.Standing.{Has, Holds, Started, Back, ViewStands, view_of, view_seen, to_view, from_view, shown, alike, has_same, cell_low}
+use Rattle.avr_code.proofs.Standing.{view_of, view_seen, to_view, from_view, cell_low}
 use Rattle.avr_code.proofs.Steps.{Steps, env_of, settled_by, step_is, ask_is}
-use Rattle.avr_code.proofs.View.{View, see, put, changed, bare, moved, Sees, sees_moved, sees_core, sees_put}
-use Rattle.avr_code.proofs.Walk.{HasCode, code_held}
+use Rattle.avr_code.proofs.View.{View, changed, sees_moved, sees_core}
+use Rattle.avr_code.proofs.Walk.{code_held}
 
 abbrev pub WentTo : AvrState → ℕ → Option (Went AvrState)
 WentTo next c = Some (record { next = next; cycles = c; poll = NoPoll; sent = [] })
@@ -114,7 +105,7 @@ module _ (lay : Layout) (m : AvrState) (s : Bytes) where
       let top : m.stack ≡ 1119 = subst (λ o. HasReturnAt o) ready.fits.0 (st.back ready.begins) in
       let next = at_place (record m { sram = slice_set (slice_set m.sram 1023 ((m.place + 2) % 256)) 1022 ((m.place + 2) / 256); stack = 1117 }) to 4 in
       let step = one_step lay.flash m next (insn.Call to) 4 low (ap (insn_at mega16 lay.flash) st.at ∙ code.1) (call_free m to m.stack top room named.1) refl
-          (ap (λ (c : AvrState). WentTo (at_place c to 4) 4) (pushed m (m.place + 2) m.stack top)) in
+      (ap (λ (c : AvrState). WentTo (at_place c to 4) 4) (pushed m (m.place + 2) m.stack top)) in
       inl (from_step lay.flash (λ m'. StandsAt lay.places m' (act lay.code (Call l) s false no_reading).next) m next 4 step (stands named.0))
     where
       HasReturnAt : Option ℕ → Type 0

@@ -1,14 +1,13 @@
 -- What each instruction of the code does to the view of a machine.
-use Rattle.std.proofs.Common.{◌≡◌, ◌≢◌, ⊎_elim, length, eq-eqb, ℕ, ◌+◌, ◌-◌, ◌*◌, ◌/◌, ◌%◌, ◌<◌, ◌≤◌, ◌⊎◌, inl, inr, Bool, true, false, Some, None, refl, sym, ap, ap₂, ◌∙◌, subst, arith}
+use Rattle.std.proofs.Common.{◌≡◌, ◌≢◌, ⊎_elim, length, eq-eqb, ℕ, ◌+◌, ◌-◌, ◌/◌, ◌%◌, ◌<◌, ◌≤◌, inl, inr, Bool, true, false, Some, None, refl, sym, ap, ap₂, ◌∙◌, subst, arith}
 use Rattle.std.proofs.Math.ListN.{length-set}
 use Rattle.std.proofs.lemmas.Bool.{cases_eq, lt-ltb, le-ltb, le-leb, ne_eqb}
-use Rattle.std.specs.Prelude.{◌==◌, ◌&&◌, not, nat_lt, nat_le, if◌then◌else◌, slice_index, slice_set, bit_and, bit_or, bit_xor}
+use Rattle.std.specs.Prelude.{◌==◌, ◌&&◌, not, nat_lt, if◌then◌else◌, slice_index, slice_set, bit_and, bit_or, bit_xor}
 use Rattle.chip_tables.specs.Bits.{bit_of, as_bit}
 use Rattle.chip_tables.specs.declared.outside.Env.{Env}
 use Rattle.chip_tables.specs.declared.outside.StuckCause.TheVariants.{PastFlash}
 use Rattle.runs.specs.declared.ask.Ask.TheVariants as ask
 use Rattle.avr_devices.specs.Part.{mega16}
-use Rattle.avr_devices.specs.declared.devices.AvrDevices.{AvrDevices}
 use Rattle.avr_mach.specs.declared.insn.AvrInsn.{AvrInsn}
 use Rattle.avr_mach.specs.declared.insn.AvrInsn.TheVariants as insn
 use Rattle.avr_mach.specs.declared.state.AvrState.{AvrState}
@@ -18,8 +17,8 @@ use Rattle.avr_mach.specs.Asks.{insn_ask, lds_ask}
 use Rattle.avr_mach.specs.Control.{branch, skip_if, obstacle, long_obstacle}
 use Rattle.avr_mach.specs.Exec.{exec}
 use Rattle.avr_mach.specs.Access.{loaded}
-use Rattle.avr_mach.specs.Memory.{Read, lds_read, lds_register, ram_byte, with_ram, io_written, data_written, sent_at}
-use Rattle.avr_mach.specs.State.{After, after, act, reg, with_reg, flag, with_flag}
+use Rattle.avr_mach.specs.Memory.{lds_read, lds_register, ram_byte, with_ram, io_written}
+use Rattle.avr_mach.specs.State.{after, act, reg, with_reg, flag, with_flag}
 use Rattle.avr_mach.specs.Transfer.{stored_at}
 use Rattle.avr_devices.specs.DevicePolls.{answer}
 use Rattle.avr_devices.specs.DeviceWrites.{sent_to}

@@ -1,7 +1,7 @@
 -- The paths through the code of a primitive, as a tree that computes: a fork for each test, and a view of the machine at each end.
-use Rattle.std.proofs.Common.{◌≡◌, ◌⊎◌, inl, inr, Option, ℕ, zero, suc, ◌+◌, ◌-◌, ◌*◌, ◌%◌, ◌<◌, ◌≤◌, Bool, true, false, List, [], ◌∷◌, ◌++◌, Some, None, refl, sym, ap, ◌∙◌, subst, arith, add_assoc}
+use Rattle.std.proofs.Common.{◌≡◌, ◌⊎◌, inl, inr, Option, ℕ, zero, suc, ◌+◌, ◌-◌, ◌%◌, ◌<◌, ◌≤◌, Bool, true, false, List, [], ◌∷◌, Some, refl, sym, ap, ◌∙◌, subst, arith}
 use Rattle.std.proofs.lemmas.Bool.{lt-ltb, leb-true}
-use Rattle.std.specs.Prelude.{if◌then◌else◌, nat_le, nat_lt}
+use Rattle.std.specs.Prelude.{if◌then◌else◌, nat_le}
 use Rattle.chip_tables.specs.Outside.{no_reading}
 use Rattle.chip_tables.specs.declared.outside.Poll.TheVariants.{NoPoll}
 use Rattle.runs.specs.Chip.{steps_over}
@@ -10,15 +10,13 @@ use Rattle.runs.specs.declared.ask.Ask.TheVariants as ask
 use Rattle.avr_devices.specs.Part.{mega16}
 use Rattle.avr_mach.specs.declared.insn.AvrInsn.{AvrInsn}
 use Rattle.avr_mach.specs.declared.state.AvrState.{AvrState}
-use Rattle.avr_mach.specs.declared.state.Flow.TheVariants.{Next, Skip, To}
 use Rattle.avr_mach.specs.Control.{branch, skip_if, near}
 use Rattle.avr_mach.specs.Exec.{exec}
-use Rattle.avr_mach.specs.State.{After, after}
 use Rattle.avr_mach.specs.Step.{at_place, insn_at, avr_step, width_of}
 use Rattle.avr_mach.specs.Words.{size_of}
 use Rattle.target_core.specs.Law.{Leads, here, on, LeadsFrom}
-use Rattle.avr_code.specs.Code.{Piece, Plain, Loads, Stores, insn_of, size_in}
-use Rattle.avr_code.proofs.Effects.{IsNear, is_near, Kind, Straight, SkipIf, Branch, Jumps, Other, kind_of, PieceFits, Does, Acts, piece_does}
+use Rattle.avr_code.specs.Code.{Piece, insn_of}
+use Rattle.avr_code.proofs.Effects.{IsNear, is_near, Kind, Straight, SkipIf, Branch, Jumps, Other, kind_of, PieceFits, Does, piece_does}
 use Rattle.avr_code.proofs.Steps.{Steps, env_of, settled_by, step_is, ask_is}
 use Rattle.avr_code.proofs.View.{View, Sees, moved, sees_moved}
 use Rattle.avr_code.proofs.Walk.{HasCode, sizes}
@@ -144,10 +142,10 @@ module _ (flash : List ℕ) (T : AvrState → Type 0) where
   after_skip i begin (p ∷ ps) m v h at vat code rest d low stands =
       let c = 1 + size_of (insn_of p) in
       let e : settled_by flash (m.place + size_of i) (exec mega16 (env_of false no_reading) i m.place m)
-          ≡ WentTo (at_place m (v.core.place + size_of i + size_of (insn_of p)) c) c =
+      ≡ WentTo (at_place m (v.core.place + size_of i + size_of (insn_of p)) c) c =
       ap (settled_by flash (m.place + size_of i)) d.acts
-          ∙ ap (λ n. WentTo (at_place m (m.place + size_of i + n) (1 + n)) (1 + n)) (ap (λ n. width_of (insn_at mega16 flash (n + size_of i))) at ∙ ap width_of code.1)
-          ∙ ap (λ n. WentTo (at_place m (n + size_of i + size_of (insn_of p)) c) c) (at ∙ sym vat) in
+      ∙ ap (λ n. WentTo (at_place m (m.place + size_of i + n) (1 + n)) (1 + n)) (ap (λ n. width_of (insn_at mega16 flash (n + size_of i))) at ∙ ap width_of code.1)
+      ∙ ap (λ n. WentTo (at_place m (n + size_of i + size_of (insn_of p)) c) c) (at ∙ sym vat) in
       add_first m _ c _ (quiet_step i m _ c low stands v _ d e)
       (rest (size_of (insn_of p)) _ _ (sees_moved m v (v.core.place + size_of i + size_of (insn_of p)) c h) (ap (λ n. n + size_of i + size_of (insn_of p)) vat))
 
@@ -165,14 +163,14 @@ module _ (flash : List ℕ) (T : AvrState → Type 0) where
       ])
   on_kind i begin ps m v (Straight effect cycles) h at vat code rest d near low stands =
       let e = ap (settled_by flash (m.place + size_of i)) d.acts.1
-          ∙ ap (λ n. WentTo (at_place d.acts.0 (n + size_of i) cycles) cycles) (at ∙ sym vat) in
+      ∙ ap (λ n. WentTo (at_place d.acts.0 (n + size_of i) cycles) cycles) (at ∙ sym vat) in
       add_first m _ cycles _ (quiet_step i m _ cycles low stands v _ d e)
       (rest 0 _ _ (sees_moved d.acts.0 (effect v) (v.core.place + size_of i) cycles d.acts.2) (omega (arith, vat)))
   on_kind i begin ps m v (SkipIf test) h at vat code rest d near low stands = (
     λ yes. after_skip i begin ps m v h at vat code rest (record { free = d.free; asks = d.asks; acts = d.acts ∙ ap (skip_if m) yes }) low stands,
     λ not'.
         let e = ap (settled_by flash (m.place + size_of i)) (d.acts ∙ ap (skip_if m) not')
-            ∙ ap (λ n. WentTo (at_place m (n + size_of i) 1) 1) (at ∙ sym vat) in
+        ∙ ap (λ n. WentTo (at_place m (n + size_of i) 1) 1) (at ∙ sym vat) in
         add_first m _ 1 _ (quiet_step i m _ 1 low stands v _ d e)
         (rest 0 _ _ (sees_moved m v (v.core.place + size_of i) 1 h) (omega (arith, vat))),
   )
@@ -180,13 +178,13 @@ module _ (flash : List ℕ) (T : AvrState → Type 0) where
     λ yes inside.
         let target : (m.place + 1 + k) % 8192 ≡ v.core.place + 1 + k = omega (arith, at, vat, inside) in
         let e = ap (settled_by flash (m.place + size_of i)) (d.acts ∙ ap (λ b. branch mega16 m b m.place k) yes)
-            ∙ ap (λ b. WentTo (at_place m (if b then (m.place + 1 + k) % 8192 else (m.place + 1 + k + 8064) % 8192) 2) 2) (lt-ltb k 64 near.1)
-            ∙ ap (λ n. WentTo (at_place m n 2) 2) target in
+        ∙ ap (λ b. WentTo (at_place m (if b then (m.place + 1 + k) % 8192 else (m.place + 1 + k + 8064) % 8192) 2) 2) (lt-ltb k 64 near.1)
+        ∙ ap (λ n. WentTo (at_place m n 2) 2) target in
         add_first m _ 2 _ (quiet_step i m _ 2 low stands v _ d e)
         (rest k _ _ (sees_moved m v (v.core.place + 1 + k) 2 h) (let one : size_of i ≡ 1 = near.0 in omega (arith, vat, one))),
     λ not'.
         let e = ap (settled_by flash (m.place + size_of i)) (d.acts ∙ ap (λ b. branch mega16 m b m.place k) not')
-            ∙ ap (λ n. WentTo (at_place m (n + size_of i) 1) 1) (at ∙ sym vat) in
+        ∙ ap (λ n. WentTo (at_place m (n + size_of i) 1) 1) (at ∙ sym vat) in
         add_first m _ 1 _ (quiet_step i m _ 1 low stands v _ d e)
         (rest 0 _ _ (sees_moved m v (v.core.place + size_of i) 1 h) (omega (arith, vat))),
   )
@@ -194,7 +192,7 @@ module _ (flash : List ℕ) (T : AvrState → Type 0) where
       let e = ap (settled_by flash (m.place + size_of i)) d.acts in
       add_first m (at_place m place cycles) cycles (At (moved v place cycles) 0) (quiet_step i m (at_place m place cycles) cycles low stands v _ d e)
       (λ left further. let same : left ≡ 0 + left = omega arith in
-          subst (λ n. Leads Steps' T (at_place m place cycles) n []) same (further (at_place m place cycles) (sees_moved m v place cycles h)))
+      subst (λ n. Leads Steps' T (at_place m place cycles) n []) same (further (at_place m place cycles) (sees_moved m v place cycles h)))
   on_kind i begin ps m v Other h at vat code rest d near low stands = tt
 
   sized : (p : Piece) → 1 ≤ size_of (insn_of p)

@@ -1,20 +1,17 @@
 -- The cycle poll.
-use Rattle.std.proofs.Common.{◌≡◌, ℕ, suc, ◌+◌, ◌-◌, ◌*◌, ◌/◌, ◌%◌, ◌<◌, ◌≤◌, Bool, true, false, List, [], ◌∷◌, length, Option, Some, None, refl, sym, ap, ap₂, ◌∙◌, subst, arith, lit<, lit≤, get_or-set_same}
+use Rattle.std.proofs.Common.{◌≡◌, ℕ, suc, ◌+◌, ◌%◌, ◌<◌, ◌≤◌, Bool, true, false, [], Some, None, refl, ap, ap₂, ◌∙◌, arith, lit<, lit≤, get_or-set_same}
 use Rattle.std.specs.Prelude.{◌&&◌, if◌then◌else◌, slice_index, slice_set}
 use Rattle.chip_tables.specs.Bits.{bit_of}
 use Rattle.chip_tables.specs.Outside.{no_reading}
 use Rattle.chip_tables.specs.declared.outside.Env.{Env}
 use Rattle.chip_tables.specs.declared.outside.PinReading.{PinReading}
-use Rattle.chip_tables.specs.declared.outside.Poll.{Poll}
 use Rattle.chip_tables.specs.declared.outside.Poll.TheVariants.{NoPoll, CycleReady, CycleNotReady, CycleStill}
 use Rattle.runs.specs.Chip.{steps_over}
-use Rattle.runs.specs.Run.{Went, ask_of}
+use Rattle.runs.specs.Run.{ask_of}
 use Rattle.runs.specs.declared.ask.Ask.TheVariants as ask
-use Rattle.byte_code.specs.declared.prim.BytePrim.{BytePrim}
 use Rattle.byte_code.specs.declared.prim.BytePrim.TheVariants.{CyclePoll}
 use Rattle.byte_code.specs.declared.state.Bytes.{Bytes}
 use Rattle.byte_code.specs.Machine.{act}
-use Rattle.avr_devices.specs.declared.devices.AvrDevices.{AvrDevices}
 use Rattle.avr_devices.specs.Device.{is_timing}
 use Rattle.avr_devices.specs.DevicePolls.{answer, answered, cycle_flags}
 use Rattle.avr_devices.specs.Part.{mega16}
@@ -23,20 +20,18 @@ use Rattle.avr_mach.specs.declared.state.AvrState.{AvrState}
 use Rattle.avr_mach.specs.declared.state.Flow.TheVariants.{Next}
 use Rattle.avr_mach.specs.Access.{loaded}
 use Rattle.avr_mach.specs.Control.{skip_if}
-use Rattle.avr_mach.specs.Exec.{exec}
-use Rattle.avr_mach.specs.Memory.{Read}
 use Rattle.avr_mach.specs.State.{After, reg, with_reg}
 use Rattle.avr_mach.specs.State as state
 use Rattle.avr_mach.specs.Step.{avr_step, insn_at, at_place, width_of}
-use Rattle.target_core.specs.Law.{Leads, here, on, LeadsFrom, IsReady, Layout}
-use Rattle.avr_code.specs.Code.{Piece, Plain, poll_code}
+use Rattle.target_core.specs.Law.{here, LeadsFrom, IsReady, Layout}
+use Rattle.avr_code.specs.Code.{poll_code}
 use Rattle.avr_code.specs.Stands.{StandsAt}
 use Rattle.avr_code.specs.Target.{avr_target}
 use Rattle.avr_code.proofs.Control.{WentTo, one_step, then_step}
 use Rattle.avr_code.proofs.Primitives.{flag_kept}
-use Rattle.avr_code.proofs.Standing.{Has, ViewStands, view_of, view_seen, to_view, from_view, alike, has_same}
+use Rattle.avr_code.proofs.Standing.{view_of, view_seen, to_view, from_view, alike, has_same}
 use Rattle.avr_code.proofs.Steps.{Steps, env_of, settled_by, step_is, ask_is}
-use Rattle.avr_code.proofs.View.{View, put, moved, Sees, sees_moved, sees_core, sees_put}
+use Rattle.avr_code.proofs.View.{sees_moved, sees_core, sees_put}
 use Rattle.avr_code.proofs.Walk.{HasCode, code_held}
 
 -- TIFR as IN reads it, by the timer's flag and by whether the timer runs

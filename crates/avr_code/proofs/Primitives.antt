@@ -1,20 +1,15 @@
 -- Each primitive that is admitted leads to what the byte machine comes to.
-use Rattle.std.proofs.Common.{◌≡◌, ◌≢◌, ℕ, zero, suc, ◌+◌, ◌-◌, ◌*◌, ◌/◌, ◌%◌, ◌^◌, ◌<◌, ◌≤◌, ◌⊎◌, inl, inr, Bool, true, false, List, [], ◌∷◌, ◌++◌, length, Option, Some, None, refl, sym, ap, ap₂, ◌∙◌, subst, arith, lit<, lit≤}
-use Rattle.std.proofs.lemmas.Bool.{lt-ltb, le-ltb, true≢false, ltb-true, ltb-false}
+use Rattle.std.proofs.Common.{◌≡◌, ℕ, suc, ◌+◌, ◌-◌, ◌*◌, ◌%◌, ◌<◌, ◌≤◌, inl, inr, Bool, true, false, List, [], ◌∷◌, Option, Some, None, refl, sym, ap, ap₂, ◌∙◌, subst, arith, lit<, lit≤}
+use Rattle.std.proofs.lemmas.Bool.{lt-ltb, le-ltb, true≢false}
 use Rattle.std.specs.Prelude.{◌==◌, ◌&&◌, ◌||◌, not, nat_le, nat_lt, if◌then◌else◌, slice_index}
 use Rattle.chip_tables.specs.Bits.{as_bit}
 use Rattle.chip_tables.specs.Outside.{no_reading}
-use Rattle.chip_tables.specs.Scratch.{avr_scratch}
-use Rattle.runs.specs.Run.{Went, ask_of}
 use Rattle.runs.specs.Chip.{steps_over}
-use Rattle.runs.specs.declared.ask.Ask.TheVariants as ask
 use Rattle.byte_code.specs.declared.prim.BytePrim.{BytePrim}
-use Rattle.byte_code.specs.declared.prim.BytePrim.TheVariants.{Start, CyclePoll, AdcPoll, Label, Jump, Call, Return, JumpWhere, Bit, Byte, Word, Compare, Device, Eeprom, Table}
-use Rattle.byte_code.specs.declared.prim.Test.{Test}
+use Rattle.byte_code.specs.declared.prim.BytePrim.TheVariants.{Label, Jump, JumpWhere, Byte, Word, Compare}
 use Rattle.byte_code.specs.declared.prim.Test.TheVariants as test
 use Rattle.byte_code.specs.declared.prim.ByteOp.TheVariants as bytes
 use Rattle.byte_code.specs.declared.prim.WordOp.TheVariants as words
-use Rattle.byte_code.specs.declared.prim.WordSource.{WordSource}
 use Rattle.byte_code.specs.declared.prim.WordSource.TheVariants as source
 use Rattle.byte_code.specs.declared.prim.CompareOp.TheVariants as compares
 use Rattle.byte_code.specs.declared.prim.FlagKind.{FlagKind}
@@ -23,8 +18,8 @@ use Rattle.chip_tables.specs.declared.scratch.Scratch.{Scratch}
 use Rattle.byte_code.specs.declared.store.Flag.{Flag}
 use Rattle.byte_code.specs.declared.store.Store.{Store}
 use Rattle.byte_code.specs.declared.state.Bytes.{Bytes}
-use Rattle.byte_code.specs.Store.{cell, with_cell, word_at, word_from, with_word, lifted}
-use Rattle.byte_code.specs.Machine.{act, asked_by, label_place, goes_to}
+use Rattle.byte_code.specs.Store.{cell, with_cell, word_at, word_from, lifted}
+use Rattle.byte_code.specs.Machine.{act, label_place, goes_to}
 use Rattle.byte_code.specs.Table.{plain, same, value_of}
 use Rattle.byte_code.specs.Counts.{IsOfKind}
 use Rattle.avr_mach.specs.declared.insn.AvrInsn.{AvrInsn}
@@ -36,16 +31,16 @@ use Rattle.avr_mach.specs.State.{flag}
 use Rattle.avr_mach.specs.Step.{avr_step, at_place}
 use Rattle.avr_mach.specs.Words.{size_of}
 use Rattle.avr_devices.specs.Part.{mega16}
-use Rattle.target_core.specs.Law.{Leads, LeadsFrom, Moves, IsReady, Layout, HasAt}
+use Rattle.target_core.specs.Law.{LeadsFrom, Moves, IsReady, Layout, HasAt}
 use Rattle.avr_code.specs.Code.{Piece, Plain, Loads, Stores, insn_of, code_of, words_of, size_in, word_count, cycle_count, jump_on, status_bit}
 use Rattle.avr_code.specs.Stands.{IsCell, HasFlag, StandsAt}
-use Rattle.avr_code.specs.Target.{IsWord, ReadsWord, avr_target}
+use Rattle.avr_code.specs.Target.{avr_target}
 use Rattle.avr_code.proofs.Compares.{equal_words, below_words, less_words}
 use Rattle.avr_code.proofs.Effects.{InsnFits, PieceFits, result}
 use Rattle.avr_code.proofs.Paths.{Paths, At, Fork, Near, Lost, bump, paths, AllGood, AllPiecesFit, good_paths}
 use Rattle.avr_code.proofs.Standing.{Has, Alike, ViewStands, view_of, view_seen, to_view, from_view, alike, has_same, has_cell, has_word}
 use Rattle.avr_code.proofs.Sums.{added_low, added_high, more_low, more_high, less_low, less_high, taken_low, taken_high, word_low, word_high}
-use Rattle.avr_code.proofs.View.{View, see, changed, moved, Sees, set_index}
+use Rattle.avr_code.proofs.View.{View, see, changed, moved, set_index}
 use Rattle.avr_code.proofs.Walk.{HasCode, AllFit, code_held}
 
 insn_fields : (i : AvrInsn) → InsnFits i → FieldsFit i
@@ -244,9 +239,12 @@ module _ (lay : Layout) (m : AvrState) (s : Bytes) where
       let code = code_held (q ∷ ps) lay.flash place (all_fields (q ∷ ps) fit) inside loaded in
       let T : AvrState → Type 0 = λ m'. StandsAt lay.places m' (act lay.code p s false no_reading).next in
       let went = good_paths lay.flash T q ps m v (cycle_count p) (Ends p) fit (subst (λ n. HasCode lay.flash n (q ∷ ps)) (sym has.at) code) seen
-          (λ m' w sees ends. from_view lay.places m' w (act lay.code p s false no_reading).next sees ends) (good v has) in
-      inl (went.0, subst (λ l. LeadsFrom (steps_over (avr_step mega16) lay.flash) T (steps_over (avr_step mega16) lay.flash m false no_reading) (cycle_count p) l)
-      (sym quiet) went.1)
+      (λ m' w sees ends. from_view lay.places m' w (act lay.code p s false no_reading).next sees ends) (good v has) in
+      inl (
+        went.0,
+        subst (λ l. LeadsFrom (steps_over (avr_step mega16) lay.flash) T (steps_over (avr_step mega16) lay.flash m false no_reading) (cycle_count p) l)
+            (sym quiet) went.1,
+      )
 
   abbrev pub Goes : BytePrim → Type 0
   Goes p = Moves (steps_over (avr_step mega16) lay.flash) (StandsAt lay.places) m (cycle_count p) s (act lay.code p s false no_reading)
@@ -307,7 +305,7 @@ module _ (lay : Layout) (m : AvrState) (s : Bytes) where
         le_more _,
         record {
           has = has_word lay.places v _ s (alike v _ refl (λ port. refl) refl refl refl refl) h.has to _ _ ((word_at s.store to + 1) % 65536) ready.admitted.0 ready.admitted.1 refl
-              (more_low (cell s.store to) (cell s.store (to + 1)) _ _ (h.has.holds.cells to ready.admitted.0) (h.has.started ready.begins).zero )
+              (more_low (cell s.store to) (cell s.store (to + 1)) _ _ (h.has.holds.cells to ready.admitted.0) (h.has.started ready.begins).zero)
               (more_high (cell s.store to) (cell s.store (to + 1)) _ _ _ (h.has.holds.cells to ready.admitted.0) (h.has.holds.cells (to + 1) ready.admitted.1) (h.has.started ready.begins).zero (h.has.holds.bytes to));
           at = seven_on v.core.place (load_size 16 to) (load_size 17 (to + 1)) (store_size to 16) (store_size (to + 1) 17) _ _ h.at ready.next;
         },
@@ -464,10 +462,10 @@ module _ (lay : Layout) (m : AvrState) (s : Bytes) where
           good_bump 1 4 (λ w. ViewStands lay.places w (next_of 21)) (paths (jump_on 1 false (slice_index lay.labels l)) 0 (counted v))
           (jump_good 4 (λ w. ViewStands lay.places w (next_of 21)) (counted v) 1 false (slice_index lay.labels l) (lit≤ tt)
           (λ t.
-              let gone : slice_index lay.places (After (not (cell (count_of 21) 21 == 0)) l) ≡ slice_index lay.places (suc s.place) =
-                  ap (λ b. slice_index lay.places (After b l)) (says true t) in
-              let at = four_words v.core.place (slice_index lay.places s.place) (slice_index lay.places (suc s.place)) h.at next in
-              (subst (λ n. n < 8192) (gone ∙ sym at) low, record { has = elsewhere lay.places _ _ _ (taken _ refl (alike v _ refl (λ port. refl) refl refl refl refl)); at = at ∙ sym gone }))
+          let gone : slice_index lay.places (After (not (cell (count_of 21) 21 == 0)) l) ≡ slice_index lay.places (suc s.place) =
+          ap (λ b. slice_index lay.places (After b l)) (says true t) in
+          let at = four_words v.core.place (slice_index lay.places s.place) (slice_index lay.places (suc s.place)) h.at next in
+          (subst (λ n. n < 8192) (gone ∙ sym at) low, record { has = elsewhere lay.places _ _ _ (taken _ refl (alike v _ refl (λ port. refl) refl refl refl refl)); at = at ∙ sym gone }))
           (λ t. record {
             has = elsewhere lay.places _ _ _ (taken _ refl (alike v _ refl (λ port. refl) refl refl refl refl));
             at = named.0 ∙ sym (ap (λ b. slice_index lay.places (After b l)) (says false t));
@@ -503,14 +501,16 @@ module _ (lay : Layout) (m : AvrState) (s : Bytes) where
           jump_good 4 (λ w. ViewStands lay.places w (goes_to s s.store (After (same (value_of s.store.flag) is) l))) v (status_bit k) is
           (slice_index lay.labels l) (lit≤ tt)
           (λ t.
-              let gone : slice_index lay.places (After (same (value_of s.store.flag) is) l) ≡ slice_index lay.places (suc s.place) =
-                  ap (λ b. slice_index lay.places (After b l)) (same_no (value_of s.store.flag) is (sym value ∙ t)) in
-              let at = three_words v.core.place (slice_index lay.places s.place) (slice_index lay.places (suc s.place)) h.at next in
-              (subst (λ n. n < 8192) (gone ∙ sym at) low, record {
-                has = has_same lay.places v _ s (alike v _ refl (λ port. refl) refl refl refl refl) h.has s.store.flag (After (same (value_of s.store.flag) is) l) refl
-                    (flag_kept v.core (v.core.place + 1 + 2) 2 s.store.flag h.has.flag);
-                at = at ∙ sym gone;
-              }))
+          let gone : slice_index lay.places (After (same (value_of s.store.flag) is) l) ≡ slice_index lay.places (suc s.place) =
+          ap (λ b. slice_index lay.places (After b l)) (same_no (value_of s.store.flag) is (sym value ∙ t)) in
+          let at = three_words v.core.place (slice_index lay.places s.place) (slice_index lay.places (suc s.place)) h.at next in (
+            subst (λ n. n < 8192) (gone ∙ sym at) low,
+            record {
+              has = has_same lay.places v _ s (alike v _ refl (λ port. refl) refl refl refl refl) h.has s.store.flag (After (same (value_of s.store.flag) is) l) refl
+                  (flag_kept v.core (v.core.place + 1 + 2) 2 s.store.flag h.has.flag);
+              at = at ∙ sym gone;
+            },
+          ))
           (λ t. record {
             has = has_same lay.places v _ s (alike v _ refl (λ port. refl) refl refl refl refl) h.has s.store.flag (After (same (value_of s.store.flag) is) l) refl
                 (flag_kept (at_place v.core (v.core.place + 1) 1) (slice_index lay.labels l) 3 s.store.flag (flag_kept v.core (v.core.place + 1) 1 s.store.flag h.has.flag));

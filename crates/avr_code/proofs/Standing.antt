@@ -1,7 +1,7 @@
 -- When a view stands for a state of the byte machine, and how it goes on standing.
-use Rattle.std.proofs.Common.{◌≡◌, ◌≢◌, ℕ, suc, ◌+◌, ◌-◌, ◌*◌, ◌/◌, ◌%◌, ◌<◌, ◌≤◌, ◌⊎◌, inl, inr, ⊎_elim, Bool, true, false, List, length, get_or, Option, Some, None, refl, sym, ap, ap₂, ◌∙◌, subst, arith, lit<, lit≤, eq-eqb, get_or-set_same, get_or-set_other}
+use Rattle.std.proofs.Common.{◌≡◌, ℕ, suc, ◌+◌, ◌-◌, ◌*◌, ◌/◌, ◌%◌, ◌<◌, ◌≤◌, inl, inr, Bool, true, false, List, length, Option, Some, None, refl, sym, ap, ap₂, ◌∙◌, subst, arith, lit<, lit≤}
 use Rattle.std.proofs.Math.ListN.{set, length-set}
-use Rattle.std.proofs.lemmas.Bool.{cases_eq, ne_eqb, lt-ltb, le-ltb}
+use Rattle.std.proofs.lemmas.Bool.{ne_eqb, lt-ltb, le-ltb}
 use Rattle.std.specs.Prelude.{◌==◌, nat_lt, if◌then◌else◌, slice_index, slice_set}
 use Rattle.chip_tables.specs.Scratch.{avr_scratch}
 use Rattle.byte_code.specs.declared.state.Bytes.{Bytes}
@@ -13,8 +13,8 @@ use Rattle.avr_mach.specs.declared.state.AvrState.{AvrState}
 use Rattle.avr_mach.specs.Memory.{ram_byte}
 use Rattle.avr_mach.specs.State.{reg, flag}
 use Rattle.avr_code.specs.Code.{status_bit}
-use Rattle.avr_code.specs.Stands.{is_work, IsCell, HasFlag, HasReturn, IsStarted, Shows, StandsAt}
-use Rattle.avr_code.proofs.View.{View, see, changed, bare, Sees, set_index}
+use Rattle.avr_code.specs.Stands.{is_work, IsCell, HasFlag, HasReturn, Shows, StandsAt}
+use Rattle.avr_code.proofs.View.{View, changed, bare, Sees, set_index}
 
 pub record Holds (v : View) (d : Store) : Type 0 where
   pub all : length d.cells ≡ 1120

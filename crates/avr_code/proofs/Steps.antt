@@ -1,5 +1,5 @@
 -- One step that asks for nothing.
-use Rattle.std.proofs.Common.{◌≡◌, ℕ, ◌+◌, ◌<◌, Bool, false, List, [], Option, Some, None, refl, ap, ◌∙◌}
+use Rattle.std.proofs.Common.{◌≡◌, ℕ, ◌+◌, ◌<◌, Bool, false, List, [], Option, Some, None, ap, ◌∙◌}
 use Rattle.std.proofs.lemmas.Bool.{lt-ltb}
 use Rattle.std.specs.Prelude.{if◌then◌else◌}
 use Rattle.chip_tables.specs.Outside.{no_reading}
@@ -14,7 +14,7 @@ use Rattle.runs.specs.declared.ask.Ask.TheVariants as ask
 use Rattle.avr_devices.specs.Part.{mega16}
 use Rattle.avr_mach.specs.declared.insn.AvrInsn.{AvrInsn}
 use Rattle.avr_mach.specs.declared.state.AvrState.{AvrState}
-use Rattle.avr_mach.specs.Asks.{insn_ask, unless_stuck_ask, ask_by, ask_at}
+use Rattle.avr_mach.specs.Asks.{insn_ask, unless_stuck_ask, ask_by}
 use Rattle.avr_mach.specs.Control.{obstacle}
 use Rattle.avr_mach.specs.Exec.{exec}
 use Rattle.avr_mach.specs.State.{After}

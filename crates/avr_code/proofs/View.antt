@@ -1,13 +1,12 @@
 -- The machine with its registers and its RAM as functions, so that what instructions do to them computes.
-use Rattle.std.proofs.Common.{◌≡◌, ◌≢◌, ℕ, ◌+◌, ◌-◌, ◌*◌, ◌%◌, ◌<◌, ◌≤◌, ◌⊎◌, inl, inr, ⊎_elim, Bool, true, false, List, [], length, get_or, refl, sym, ap, ap₂, ◌∙◌, subst, arith, lit<, eq-eqb, get_or-set_same, get_or-set_other}
+use Rattle.std.proofs.Common.{◌≡◌, ◌≢◌, ℕ, ◌-◌, ◌<◌, ◌≤◌, ◌⊎◌, inl, inr, ⊎_elim, Bool, true, false, List, [], length, get_or, refl, sym, ap, ◌∙◌, arith, eq-eqb, get_or-set_same, get_or-set_other}
 use Rattle.std.proofs.Math.ListN.{set, length-set}
 use Rattle.std.proofs.lemmas.Bool.{cases_eq, ne_eqb, true≢false}
-use Rattle.std.specs.Prelude.{◌==◌, if◌then◌else◌, nat_lt, not, slice_index, slice_set}
-use Rattle.avr_devices.specs.DeviceWrites.{cycles_passed}
+use Rattle.std.specs.Prelude.{◌==◌, if◌then◌else◌, slice_index, slice_set}
 use Rattle.avr_mach.specs.declared.state.AvrState.{AvrState}
 use Rattle.avr_mach.specs.State.{reg, with_reg}
 use Rattle.avr_mach.specs.Step.{at_place}
-use Rattle.avr_code.specs.Stands.{is_work, IsCell}
+use Rattle.avr_code.specs.Stands.{is_work}
 
 -- a machine but for its registers and its RAM
 abbrev pub bare : AvrState → AvrState

@@ -1,19 +1,16 @@
 -- The law of the primitives that are admitted.
-use Rattle.std.proofs.Common.{◌≡◌, ◌≢◌, ℕ, zero, suc, ◌+◌, ◌<◌, ◌≤◌, ◌⊎◌, inl, inr, Bool, true, false, List, [], ◌∷◌, ◌++◌, length, refl, sym, ap, ◌∙◌, subst, arith, lit<, lit≤, length-append}
-use Rattle.std.specs.Prelude.{◌==◌, if◌then◌else◌, slice_index}
+use Rattle.std.proofs.Common.{◌≡◌, ◌≢◌, ℕ, ◌+◌, ◌<◌, ◌≤◌, ◌⊎◌, inl, inr, true, false, List, [], ◌∷◌, length, refl, sym, ap, ◌∙◌, subst, arith, lit<, lit≤, length-append}
+use Rattle.std.specs.Prelude.{slice_index}
 use Rattle.chip_tables.specs.Outside.{no_reading}
 use Rattle.runs.specs.declared.ask.Ask.TheVariants as ask
 use Rattle.runs.specs.Chip.{steps_over}
 use Rattle.runs.specs.Run.{ask_of}
 use Rattle.byte_code.specs.declared.prim.BytePrim.{BytePrim}
 use Rattle.byte_code.specs.declared.prim.BytePrim.TheVariants.{Start, CyclePoll, AdcPoll, Label, Jump, Call, Return, JumpWhere, Bit, Byte, Word, Compare, Device, Eeprom, Table}
-use Rattle.byte_code.specs.declared.prim.Test.{Test}
 use Rattle.byte_code.specs.declared.prim.Test.TheVariants as test
-use Rattle.byte_code.specs.declared.prim.ByteOp.{ByteOp}
 use Rattle.byte_code.specs.declared.prim.ByteOp.TheVariants as bytes
 use Rattle.byte_code.specs.declared.prim.WordOp.{WordOp}
 use Rattle.byte_code.specs.declared.prim.WordOp.TheVariants as words
-use Rattle.byte_code.specs.declared.prim.WordSource.{WordSource}
 use Rattle.byte_code.specs.declared.prim.WordSource.TheVariants as source
 use Rattle.byte_code.specs.declared.prim.CompareOp.TheVariants as compares
 use Rattle.byte_code.specs.declared.state.Bytes.{Bytes}
@@ -21,7 +18,7 @@ use Rattle.byte_code.specs.Machine.{act, asked_by}
 use Rattle.avr_mach.specs.declared.insn.AvrInsn.{AvrInsn}
 use Rattle.avr_mach.specs.declared.state.AvrState.{AvrState}
 use Rattle.avr_mach.specs.Step.{avr_step}
-use Rattle.avr_mach.specs.Words.{size_of, first_word, second_word}
+use Rattle.avr_mach.specs.Words.{size_of}
 use Rattle.avr_devices.specs.Part.{mega16}
 use Rattle.chip_tables.specs.declared.outside.PinReading.{PinReading}
 use Rattle.target_core.specs.Law.{MachineLaw, IsReady, Layout, LeadsFrom, here, has_words}

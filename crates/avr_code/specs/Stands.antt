@@ -1,5 +1,5 @@
 -- When the ATmega16 stands for a state of the byte machine.
-use Rattle.std.specs.Prelude.{◌≡◌, ℕ, ◌+◌, ◌-◌, ◌<◌, ◌≤◌, ◌⊎◌, ◌==◌, ◌&&◌, ◌||◌, nat_le, Bool, true, false, List, length, Option, Some, None, slice_index}
+use Rattle.std.specs.Prelude.{◌≡◌, ℕ, ◌-◌, ◌<◌, ◌≤◌, ◌⊎◌, ◌==◌, ◌&&◌, ◌||◌, nat_le, Bool, true, false, List, length, Option, Some, None, slice_index}
 use Rattle.chip_tables.specs.Scratch.{avr_scratch}
 use Rattle.chip_tables.specs.declared.mega16.TheConstants.{IO_FIRST, SRAM_FIRST, SRAM_END, SCRATCH_FIRST, STACK_TOP}
 use Rattle.byte_code.specs.declared.state.Bytes.{Bytes}

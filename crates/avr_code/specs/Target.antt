@@ -1,5 +1,5 @@
 -- The ATmega16 as a target of the assembler, for the primitives that are admitted.
-use Rattle.std.specs.Prelude.{ℕ, ◌+◌, ◌<◌, Bool, List}
+use Rattle.std.specs.Prelude.{ℕ, ◌+◌, ◌<◌}
 use Rattle.chip_tables.specs.declared.mega16.TheConstants.{FLASH_WORDS}
 use Rattle.byte_code.specs.declared.prim.BytePrim.{BytePrim}
 use Rattle.byte_code.specs.declared.prim.BytePrim.TheVariants.{Start, CyclePoll, AdcPoll, Label, Jump, Call, Return, JumpWhere, Bit, Byte, Word, Compare, Device, Eeprom, Table}
