@@ -58,15 +58,19 @@ signs a b c d k true true false ha hb hc hd e p q r = let p' = leb-true 128 b p 
     sym (le-ltb (lifted (a + b * 256)) (lifted (c + d * 256)) (omega (arith, e, p', q', r', ha, hb, hc, hd)))
 signs a b c d k true false true ha hb hc hd e p q r = let p' = leb-true 128 b p in let q' = leb-false 128 d q in let r' = leb-true 128 (difference b d k) r in
     sym (lt-ltb (lifted (a + b * 256)) (lifted (c + d * 256)) (omega (arith, e, p', q', r', ha, hb, hc, hd)))
-signs a b c d k true false false ha hb hc hd e p q r = let p' = leb-true 128 b p in let q' = leb-false 128 d q in let r' = leb-false 128 (difference b d k) r in
+signs a b c d k true false false ha hb hc hd e p q r = let p' = leb-true 128 b p in let q' = leb-false 128 d q in let r' = leb-false 128 (difference b d k) r
+    in
     sym (lt-ltb (lifted (a + b * 256)) (lifted (c + d * 256)) (omega (arith, e, p', q', r', ha, hb, hc, hd)))
 signs a b c d k false true true ha hb hc hd e p q r = let p' = leb-false 128 b p in let q' = leb-true 128 d q in let r' = leb-true 128 (difference b d k) r in
     sym (le-ltb (lifted (a + b * 256)) (lifted (c + d * 256)) (omega (arith, e, p', q', r', ha, hb, hc, hd)))
-signs a b c d k false true false ha hb hc hd e p q r = let p' = leb-false 128 b p in let q' = leb-true 128 d q in let r' = leb-false 128 (difference b d k) r in
+signs a b c d k false true false ha hb hc hd e p q r = let p' = leb-false 128 b p in let q' = leb-true 128 d q in let r' = leb-false 128 (difference b d k) r
+    in
     sym (le-ltb (lifted (a + b * 256)) (lifted (c + d * 256)) (omega (arith, e, p', q', r', ha, hb, hc, hd)))
-signs a b c d k false false true ha hb hc hd e p q r = let p' = leb-false 128 b p in let q' = leb-false 128 d q in let r' = leb-true 128 (difference b d k) r in
+signs a b c d k false false true ha hb hc hd e p q r = let p' = leb-false 128 b p in let q' = leb-false 128 d q in let r' = leb-true 128 (difference b d k) r
+    in
     sym (lt-ltb (lifted (a + b * 256)) (lifted (c + d * 256)) (omega (arith, e, p', q', r', ha, hb, hc, hd)))
-signs a b c d k false false false ha hb hc hd e p q r = let p' = leb-false 128 b p in let q' = leb-false 128 d q in let r' = leb-false 128 (difference b d k) r in
+signs a b c d k false false false ha hb hc hd e p q r = let p' = leb-false 128 b p in let q' = leb-false 128 d q in let r' = leb-false 128 (difference b d k)
+    r in
     sym (le-ltb (lifted (a + b * 256)) (lifted (c + d * 256)) (omega (arith, e, p', q', r', ha, hb, hc, hd)))
 
 -- the sign of a chain of two bytes

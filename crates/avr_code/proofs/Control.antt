@@ -37,7 +37,8 @@ abbrev pub WentTo : AvrState → ℕ → Option (Went AvrState)
 WentTo next c = Some (record { next = next; cycles = c; poll = NoPoll; sent = [] })
 
 -- the step of an instruction that asks nobody
-pub one_step : (flash : List ℕ) (m next : AvrState) (i : AvrInsn) (c : ℕ) → m.place < 8192 → insn_at mega16 flash m.place ≡ Some i → obstacle mega16 i m ≡ None →
+pub one_step : (flash : List ℕ) (m next : AvrState) (i : AvrInsn) (c : ℕ) → m.place < 8192 → insn_at mega16 flash m.place ≡ Some i → obstacle mega16 i m ≡
+    None →
     insn_ask i m.devices ≡ ask.Nothing → settled_by flash (m.place + size_of i) (exec mega16 (env_of false no_reading) i m.place m) ≡ WentTo next c →
     Steps flash m next c
 one_step flash m next i c low stands free quiet e = record {
@@ -67,7 +68,11 @@ module _ (flash : List ℕ) (T : AvrState → Type 0) where
   )
 
 pushed : (m : AvrState) (back n : ℕ) → n ≡ 1119 →
-    record (with_ram (with_ram m n (back % 256)) (n - 1) (back / 256)) { stack = n - 2 } ≡ record m { sram = slice_set (slice_set m.sram 1023 (back % 256)) 1022 (back / 256); stack = 1117 }
+    record (with_ram (with_ram m n (back % 256)) (n - 1) (back / 256)) { stack = n - 2 } ≡ record m {
+      sram = slice_set (slice_set m.sram 1023 (back % 256))
+          1022 (back / 256);
+      stack = 1117;
+    }
 pushed m back n e =
     ap (λ n. record (with_ram (with_ram m n (back % 256)) (n - 1) (back / 256)) { stack = n - 2 }) e
 
@@ -112,7 +117,8 @@ module _ (lay : Layout) (m : AvrState) (s : Bytes) where
       HasReturnAt o = HasReturn lay.places m o
 
       stands : slice_index lay.labels l ≡ slice_index lay.places (label_place lay.code l) → StandsAt lay.places
-          (at_place (record m { sram = slice_set (slice_set m.sram 1023 ((m.place + 2) % 256)) 1022 ((m.place + 2) / 256); stack = 1117 }) (slice_index lay.labels l) 4)
+          (at_place (record m { sram = slice_set (slice_set m.sram 1023 ((m.place + 2) % 256)) 1022 ((m.place + 2) / 256); stack = 1117 }) (slice_index
+          lay.labels l) 4)
           (act lay.code (Call l) s false no_reading).next
       stands named =
           let v = view_of m in

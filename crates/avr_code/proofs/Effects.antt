@@ -424,7 +424,8 @@ module _ (env : Env) (m : AvrState) (v : View) (h : Sees m v) where
 
   stores : (a r : ℕ) → r < 32 → IsCell a → m.place + size_of (insn_of (Stores a r)) ≤ 8192 → Does (insn_of (Stores a r)) (kind_of (Stores a r)) env m v
   stores a r fr (inl low) inside = subst (λ b. Does (if b then insn.Mov a r else insn.Sts a r)
-      (Straight (λ v. record v { cells = changed v.cells a (see v r) }) (size_of (if b then insn.Mov a r else insn.Sts a r))) env m v) (sym (lt-ltb a 32 low.0))
+      (Straight (λ v. record v { cells = changed v.cells a (see v r) }) (size_of (if b then insn.Mov a r else insn.Sts a r))) env m v) (sym (lt-ltb a 32
+      low.0))
       (record {
         free = refl;
         asks = refl;

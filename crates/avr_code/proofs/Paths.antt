@@ -124,7 +124,12 @@ module _ (flash : List ℕ) (T : AvrState → Type 0) where
   -- where the machine stands at an instruction, its step
   quiet_step : (i : AvrInsn) (m next : AvrState) (c : ℕ) → m.place < 8192 → insn_at mega16 flash m.place ≡ Some i → (v : View) (kind : Kind) →
       Does i kind (env_of false no_reading) m v →
-      settled_by flash (m.place + size_of i) (exec mega16 (env_of false no_reading) i m.place m) ≡ Some (record { next = next; cycles = c; poll = NoPoll; sent = [] }) →
+      settled_by flash (m.place + size_of i) (exec mega16 (env_of false no_reading) i m.place m) ≡ Some (record {
+        next = next;
+        cycles = c;
+        poll = NoPoll;
+        sent = [];
+      }) →
       Steps flash m next c
   quiet_step i m next c low stands v kind d e = record {
     asks = ask_is flash m i low stands d.free ∙ d.asks;
@@ -144,10 +149,12 @@ module _ (flash : List ℕ) (T : AvrState → Type 0) where
       let e : settled_by flash (m.place + size_of i) (exec mega16 (env_of false no_reading) i m.place m)
       ≡ WentTo (at_place m (v.core.place + size_of i + size_of (insn_of p)) c) c =
       ap (settled_by flash (m.place + size_of i)) d.acts
-      ∙ ap (λ n. WentTo (at_place m (m.place + size_of i + n) (1 + n)) (1 + n)) (ap (λ n. width_of (insn_at mega16 flash (n + size_of i))) at ∙ ap width_of code.1)
+      ∙ ap (λ n. WentTo (at_place m (m.place + size_of i + n) (1 + n)) (1 + n)) (ap (λ n. width_of (insn_at mega16 flash (n + size_of i))) at ∙ ap width_of
+      code.1)
       ∙ ap (λ n. WentTo (at_place m (n + size_of i + size_of (insn_of p)) c) c) (at ∙ sym vat) in
       add_first m _ c _ (quiet_step i m _ c low stands v _ d e)
-      (rest (size_of (insn_of p)) _ _ (sees_moved m v (v.core.place + size_of i + size_of (insn_of p)) c h) (ap (λ n. n + size_of i + size_of (insn_of p)) vat))
+      (rest (size_of (insn_of p)) _ _ (sees_moved m v (v.core.place + size_of i + size_of (insn_of p)) c h) (ap (λ n. n + size_of i + size_of (insn_of p))
+      vat))
 
   on_kind : (i : AvrInsn) (begin : ℕ) (ps : List Piece) (m : AvrState) (v : View) (kind : Kind) → Sees m v → m.place ≡ begin → v.core.place ≡ begin →
       HasCode flash (begin + size_of i) ps → Passing (begin + size_of i) ps → Does i kind (env_of false no_reading) m v → IsNear i kind → m.place < 8192 →

@@ -107,7 +107,8 @@ module _ (lay : Layout) (m : AvrState) (s : Bytes) (l : ℕ) (ready : IsReady av
         at = st.at;
       })
 
-  pub waits : LeadsFrom (steps_over (avr_step mega16) lay.flash) (λ m'. StandsAt lay.places m' s) (steps_over (avr_step mega16) lay.flash m false no_reading) 4 []
+  pub waits : LeadsFrom (steps_over (avr_step mega16) lay.flash) (λ m'. StandsAt lay.places m' s) (steps_over (avr_step mega16) lay.flash m false no_reading)
+      4 []
   waits = record {
     went = record { next = Asked; cycles = 1; poll = CycleNotReady; sent = [] };
     is = first false no_reading;
@@ -133,20 +134,23 @@ module _ (lay : Layout) (m : AvrState) (s : Bytes) (l : ℕ) (ready : IsReady av
 
   module _ (r : PinReading) where
     abbrev Taken : AvrState
-    Taken = at_place (with_reg (record m { devices = record m.devices { reading = r; timer = record m.devices.timer { flag = true } } }) 16 16) (m.place + 1) 1
+    Taken = at_place (with_reg (record m { devices = record m.devices { reading = r; timer = record m.devices.timer { flag = true } } }) 16 16) (m.place + 1)
+        1
 
     abbrev Behind : AvrState
     Behind = at_place Taken (m.place + 1 + 1 + 1) 2
 
     abbrev Cleared : AvrState
-    Cleared = at_place (record Behind { devices = record Behind.devices { timer = record Behind.devices.timer { flag = false } } }) (m.place + 1 + 1 + 1 + 1) 1
+    Cleared = at_place (record Behind { devices = record Behind.devices { timer = record Behind.devices.timer { flag = false } } }) (m.place + 1 + 1 + 1 + 1)
+        1
 
     cleared : StandsAt lay.places Cleared (act lay.code (CyclePoll l) s true r).next
     cleared =
         let v = view_of m in
         let seen = view_seen m st.shows.regs st.shows.sram in
         let has = (to_view lay.places m v s seen st).has in
-        let seen0 = sees_core m v (λ c. record c { devices = record c.devices { reading = r; timer = record c.devices.timer { flag = true } } }) refl refl refl seen in
+        let seen0 = sees_core m v (λ c. record c { devices = record c.devices { reading = r; timer = record c.devices.timer { flag = true } } }) refl refl
+        refl seen in
         let seen1 = sees_moved _ _ (m.place + 1) 1 (sees_put _ _ 16 16 (lit< tt) seen0) in
         let seen2 = sees_moved _ _ (m.place + 1 + 1 + 1) 2 seen1 in
         let seen3 = sees_core _ _ (λ c. record c { devices = record c.devices { timer = record c.devices.timer { flag = false } } }) refl refl refl seen2 in
@@ -200,6 +204,11 @@ module _ (lay : Layout) (m : AvrState) (s : Bytes) (l : ℕ) (ready : IsReady av
         clear = one_step lay.flash Behind Cleared (insn.Out 0x38 16) 1 (let a = st.at in let b = inside in omega (arith, a, b))
             (ap (insn_at mega16 lay.flash) (behind_three m.place Place st.at) ∙ code.2.2.2.1) refl refl
             (ap (λ x. settled_by lay.flash (m.place + 1 + 1 + 1 + 1) (record {
-              state = record Behind { devices = record Behind.devices { timer = if bit_of x 4 then record Behind.devices.timer { flag = false } else Behind.devices.timer } };
+              state = record Behind {
+                devices = record Behind.devices {
+                  timer = if bit_of x 4 then record Behind.devices.timer { flag = false } else
+                      Behind.devices.timer;
+                };
+              };
               acted = state.act Next 1 NoPoll None;
             })) (holds_read 16))

@@ -266,32 +266,51 @@ module _ (lay : Layout) (m : AvrState) (s : Bytes) where
       (λ v h. (
         le_more _,
         record {
-          has = has_cell lay.places v _ s (alike v _ refl (λ port. refl) refl refl refl refl) h.has to (v.cells from) (cell s.store from) ready.admitted.0 refl
+          has = has_cell lay.places v _ s (alike v _ refl (λ port. refl) refl refl refl refl) h.has to (v.cells from) (cell s.store from) ready.admitted.0
+              refl
               (h.has.holds.cells from ready.admitted.1) (h.has.holds.bytes from);
           at = two_on v.core.place (load_size 16 from) (store_size to 16) _ _ h.at ready.next;
         },
       ))
 
-  pub move_cells : (to : ℕ) (from : ℕ) → Ready (Word (words.Move to (source.Cells from))) → StandsAt lay.places m s → Goes (Word (words.Move to (source.Cells from)))
-  move_cells to from ready st = coded (Word (words.Move to (source.Cells from))) (Loads 16 from) (Loads 17 (from + 1) ∷ Stores to 16 ∷ Stores (to + 1) 17 ∷ []) ready refl refl refl
+  pub move_cells : (to : ℕ) (from : ℕ) → Ready (Word (words.Move to (source.Cells from))) → StandsAt lay.places m s → Goes (Word (words.Move to (source.Cells
+      from)))
+  move_cells to from ready st = coded (Word (words.Move to (source.Cells from))) (Loads 16 from) (Loads 17 (from + 1) ∷ Stores to 16 ∷ Stores (to + 1) 17 ∷
+      []) ready refl refl refl
       ((lit< tt, ready.admitted.1.0), ((lit< tt, ready.admitted.1.1), ((lit< tt, ready.admitted.0.0), ((lit< tt, ready.admitted.0.1), tt)))) st
       (λ v h. (
         le_more _,
         record {
-          has = has_word lay.places v _ s (alike v _ refl (λ port. refl) refl refl refl refl) h.has to _ _ (word_from s.store (source.Cells from)) ready.admitted.0.0 ready.admitted.0.1 refl
+          has = has_word lay.places v _ s (alike v _ refl (λ port. refl) refl refl refl refl) h.has to _ _ (word_from s.store (source.Cells from))
+              ready.admitted.0.0 ready.admitted.0.1 refl
               (word_low (cell s.store from) (cell s.store (from + 1)) _ (h.has.holds.cells from ready.admitted.1.0) (h.has.holds.bytes from))
-              (word_high (cell s.store from) (cell s.store (from + 1)) _ (h.has.holds.cells (from + 1) ready.admitted.1.1) (h.has.holds.bytes from) (h.has.holds.bytes (from + 1)));
+              (word_high (cell s.store from) (cell s.store (from + 1)) _ (h.has.holds.cells (from + 1) ready.admitted.1.1) (h.has.holds.bytes from)
+              (h.has.holds.bytes (from + 1)));
           at = four_on v.core.place (load_size 16 from) (load_size 17 (from + 1)) (store_size to 16) (store_size (to + 1) 17) _ _ h.at ready.next;
         },
       ))
 
-  pub move_number : (to : ℕ) (from_low from_high : ℕ) → Ready (Word (words.Move to (source.Number from_low from_high))) → StandsAt lay.places m s → Goes (Word (words.Move to (source.Number from_low from_high)))
-  move_number to from_low from_high ready st = coded (Word (words.Move to (source.Number from_low from_high))) (Plain (insn.Ldi 16 from_low)) (Plain (insn.Ldi 17 from_high) ∷ Stores to 16 ∷ Stores (to + 1) 17 ∷ []) ready refl refl refl
-      ((lit≤ tt, lit< tt, ready.admitted.1.0), ((lit≤ tt, lit< tt, ready.admitted.1.1), ((lit< tt, ready.admitted.0.0), ((lit< tt, ready.admitted.0.1), tt)))) st
+  pub move_number : (to : ℕ) (from_low from_high : ℕ) → Ready (Word (words.Move to (source.Number from_low from_high))) → StandsAt lay.places m s → Goes
+      (Word (words.Move to (source.Number from_low from_high)))
+  move_number to from_low from_high ready st = coded (Word (words.Move to (source.Number from_low from_high))) (Plain (insn.Ldi 16 from_low))
+      (Plain (insn.Ldi 17 from_high) ∷ Stores to 16 ∷ Stores (to + 1) 17 ∷ []) ready refl refl refl (
+        (lit≤ tt, lit< tt, ready.admitted.1.0),
+        (
+          (lit≤ tt, lit< tt, ready.admitted.1.1),
+          (
+            (lit< tt, ready.admitted.0.0),
+            (
+              (lit< tt, ready.admitted.0.1),
+              tt,
+            ),
+          ),
+        ),
+      ) st
       (λ v h. (
         le_more _,
         record {
-          has = has_word lay.places v _ s (alike v _ refl (λ port. refl) refl refl refl refl) h.has to _ _ (word_from s.store (source.Number from_low from_high)) ready.admitted.0.0 ready.admitted.0.1 refl
+          has = has_word lay.places v _ s (alike v _ refl (λ port. refl) refl refl refl refl) h.has to _ _ (word_from s.store (source.Number from_low
+              from_high)) ready.admitted.0.0 ready.admitted.0.1 refl
               (word_low from_low from_high _ refl ready.admitted.1.0)
               (word_high from_low from_high _ refl ready.admitted.1.0 ready.admitted.1.1);
           at = four_on v.core.place 1 1 (store_size to 16) (store_size (to + 1) 17) _ _ h.at ready.next;
@@ -299,103 +318,266 @@ module _ (lay : Layout) (m : AvrState) (s : Bytes) where
       ))
 
   pub increment : (to : ℕ) → Ready (Word (words.Increment to)) → StandsAt lay.places m s → Goes (Word (words.Increment to))
-  increment to ready st = coded (Word (words.Increment to)) (Loads 16 to) (Loads 17 (to + 1) ∷ Plain (insn.Bset 0) ∷ Plain (insn.Adc 16 1) ∷ Plain (insn.Adc 17 1) ∷ Stores to 16 ∷ Stores (to + 1) 17 ∷ []) ready refl refl refl
-      ((lit< tt, ready.admitted.0), ((lit< tt, ready.admitted.1), (refl, ((lit< tt, lit< tt), ((lit< tt, lit< tt), ((lit< tt, ready.admitted.0), ((lit< tt, ready.admitted.1), tt))))))) st
+  increment to ready st = coded (Word (words.Increment to)) (Loads 16 to) (Loads 17 (to + 1) ∷ Plain (insn.Bset 0) ∷ Plain (insn.Adc 16 1) ∷ Plain (insn.Adc
+      17 1) ∷ Stores to 16 ∷ Stores (to + 1) 17 ∷ []) ready refl refl refl (
+        (lit< tt, ready.admitted.0),
+        (
+          (lit< tt, ready.admitted.1),
+          (
+            refl,
+            (
+              (lit< tt, lit< tt),
+              (
+                (lit< tt, lit< tt),
+                (
+                  (lit< tt, ready.admitted.0),
+                  (
+                    (
+                      lit< tt,
+                      ready.admitted.1,
+                    ),
+                    tt,
+                  ),
+                ),
+              ),
+            ),
+          ),
+        ),
+      ) st
       (λ v h. (
         le_more _,
         record {
-          has = has_word lay.places v _ s (alike v _ refl (λ port. refl) refl refl refl refl) h.has to _ _ ((word_at s.store to + 1) % 65536) ready.admitted.0 ready.admitted.1 refl
+          has = has_word lay.places v _ s (alike v _ refl (λ port. refl) refl refl refl refl) h.has to _ _ ((word_at s.store to + 1) % 65536)
+              ready.admitted.0 ready.admitted.1 refl
               (more_low (cell s.store to) (cell s.store (to + 1)) _ _ (h.has.holds.cells to ready.admitted.0) (h.has.started ready.begins).zero)
-              (more_high (cell s.store to) (cell s.store (to + 1)) _ _ _ (h.has.holds.cells to ready.admitted.0) (h.has.holds.cells (to + 1) ready.admitted.1) (h.has.started ready.begins).zero (h.has.holds.bytes to));
+              (more_high (cell s.store to) (cell s.store (to + 1)) _ _ _ (h.has.holds.cells to ready.admitted.0) (h.has.holds.cells (to + 1)
+              ready.admitted.1) (h.has.started ready.begins).zero (h.has.holds.bytes to));
           at = seven_on v.core.place (load_size 16 to) (load_size 17 (to + 1)) (store_size to 16) (store_size (to + 1) 17) _ _ h.at ready.next;
         },
       ))
 
   pub decrement : (to : ℕ) → Ready (Word (words.Decrement to)) → StandsAt lay.places m s → Goes (Word (words.Decrement to))
-  decrement to ready st = coded (Word (words.Decrement to)) (Loads 16 to) (Loads 17 (to + 1) ∷ Plain (insn.Bset 0) ∷ Plain (insn.Sbc 16 1) ∷ Plain (insn.Sbc 17 1) ∷ Stores to 16 ∷ Stores (to + 1) 17 ∷ []) ready refl refl refl
-      ((lit< tt, ready.admitted.0), ((lit< tt, ready.admitted.1), (refl, ((lit< tt, lit< tt), ((lit< tt, lit< tt), ((lit< tt, ready.admitted.0), ((lit< tt, ready.admitted.1), tt))))))) st
+  decrement to ready st = coded (Word (words.Decrement to)) (Loads 16 to) (Loads 17 (to + 1) ∷ Plain (insn.Bset 0) ∷ Plain (insn.Sbc 16 1) ∷ Plain (insn.Sbc
+      17 1) ∷ Stores to 16 ∷ Stores (to + 1) 17 ∷ []) ready refl refl refl (
+        (lit< tt, ready.admitted.0),
+        (
+          (lit< tt, ready.admitted.1),
+          (
+            refl,
+            (
+              (lit< tt, lit< tt),
+              (
+                (lit< tt, lit< tt),
+                (
+                  (lit< tt, ready.admitted.0),
+                  (
+                    (
+                      lit< tt,
+                      ready.admitted.1,
+                    ),
+                    tt,
+                  ),
+                ),
+              ),
+            ),
+          ),
+        ),
+      ) st
       (λ v h. (
         le_more _,
         record {
-          has = has_word lay.places v _ s (alike v _ refl (λ port. refl) refl refl refl refl) h.has to _ _ ((word_at s.store to + 65535) % 65536) ready.admitted.0 ready.admitted.1 refl
-              (less_low (cell s.store to) (cell s.store (to + 1)) _ _ (h.has.holds.cells to ready.admitted.0) (h.has.started ready.begins).zero (h.has.holds.bytes to))
-              (less_high (cell s.store to) (cell s.store (to + 1)) _ _ _ (h.has.holds.cells to ready.admitted.0) (h.has.holds.cells (to + 1) ready.admitted.1) (h.has.started ready.begins).zero (h.has.holds.bytes to) (h.has.holds.bytes (to + 1)));
+          has = has_word lay.places v _ s (alike v _ refl (λ port. refl) refl refl refl refl) h.has to _ _ ((word_at s.store to + 65535) % 65536)
+              ready.admitted.0 ready.admitted.1 refl
+              (less_low (cell s.store to) (cell s.store (to + 1)) _ _ (h.has.holds.cells to ready.admitted.0) (h.has.started ready.begins).zero
+              (h.has.holds.bytes to))
+              (less_high (cell s.store to) (cell s.store (to + 1)) _ _ _ (h.has.holds.cells to ready.admitted.0) (h.has.holds.cells (to + 1)
+              ready.admitted.1) (h.has.started ready.begins).zero (h.has.holds.bytes to) (h.has.holds.bytes (to + 1)));
           at = seven_on v.core.place (load_size 16 to) (load_size 17 (to + 1)) (store_size to 16) (store_size (to + 1) 17) _ _ h.at ready.next;
         },
       ))
 
-  pub add_cells : (to a : ℕ) (b : ℕ) → Ready (Word (words.Add to a (source.Cells b))) → StandsAt lay.places m s → Goes (Word (words.Add to a (source.Cells b)))
-  add_cells to a b ready st = coded (Word (words.Add to a (source.Cells b))) (Loads 16 a) (Loads 17 (a + 1) ∷ Loads 18 b ∷ Loads 19 (b + 1) ∷ Plain (insn.Add 16 18) ∷ Plain (insn.Adc 17 19) ∷ Stores to 16 ∷ Stores (to + 1) 17 ∷ []) ready refl refl refl
-      ((lit< tt, ready.admitted.1.0), ((lit< tt, ready.admitted.1.1), ((lit< tt, ready.admitted.2.0), ((lit< tt, ready.admitted.2.1), ((lit< tt, lit< tt), ((lit< tt, lit< tt), ((lit< tt, ready.admitted.0.0), ((lit< tt, ready.admitted.0.1), tt)))))))) st
+  pub add_cells : (to a : ℕ) (b : ℕ) → Ready (Word (words.Add to a (source.Cells b))) → StandsAt lay.places m s → Goes (Word (words.Add to a (source.Cells
+      b)))
+  add_cells to a b ready st = coded (Word (words.Add to a (source.Cells b))) (Loads 16 a) (Loads 17 (a + 1) ∷ Loads 18 b ∷ Loads 19 (b + 1) ∷ Plain (insn.Add
+      16 18) ∷ Plain (insn.Adc 17 19) ∷ Stores to 16 ∷ Stores (to + 1) 17 ∷ []) ready refl refl refl (
+        (lit< tt, ready.admitted.1.0),
+        (
+          (lit< tt, ready.admitted.1.1),
+          (
+            (lit< tt, ready.admitted.2.0),
+            (
+              (lit< tt, ready.admitted.2.1),
+              (
+                (lit< tt, lit< tt),
+                ((lit< tt, lit< tt), ((lit< tt, ready.admitted.0.0), ((lit< tt, ready.admitted.0.1), tt))),
+              ),
+            ),
+          ),
+        ),
+      ) st
       (λ v h. (
         le_more _,
         record {
-          has = has_word lay.places v _ s (alike v _ refl (λ port. refl) refl refl refl refl) h.has to _ _ ((word_at s.store a + word_from s.store (source.Cells b)) % 65536) ready.admitted.0.0 ready.admitted.0.1 refl
-              (added_low (cell s.store a) (cell s.store (a + 1)) (cell s.store b) (cell s.store (b + 1)) _ _ (h.has.holds.cells a ready.admitted.1.0) (h.has.holds.cells b ready.admitted.2.0))
-              (added_high (cell s.store a) (cell s.store (a + 1)) (cell s.store b) (cell s.store (b + 1)) _ _ _ _ (h.has.holds.cells a ready.admitted.1.0) (h.has.holds.cells (a + 1) ready.admitted.1.1) (h.has.holds.cells b ready.admitted.2.0) (h.has.holds.cells (b + 1) ready.admitted.2.1) (h.has.holds.bytes a) (h.has.holds.bytes b));
-          at = eight_on v.core.place (load_size 16 a) (load_size 17 (a + 1)) (load_size 18 b) (load_size 19 (b + 1)) (store_size to 16) (store_size (to + 1) 17) _ _ h.at ready.next;
+          has = has_word lay.places v _ s (alike v _ refl (λ port. refl) refl refl refl refl) h.has to _ _ ((word_at s.store a + word_from s.store
+              (source.Cells b)) % 65536) ready.admitted.0.0 ready.admitted.0.1 refl
+              (added_low (cell s.store a) (cell s.store (a + 1)) (cell s.store b) (cell s.store (b + 1)) _ _ (h.has.holds.cells a ready.admitted.1.0)
+              (h.has.holds.cells b ready.admitted.2.0))
+              (added_high (cell s.store a) (cell s.store (a + 1)) (cell s.store b) (cell s.store (b + 1)) _ _ _ _ (h.has.holds.cells a ready.admitted.1.0)
+              (h.has.holds.cells (a + 1) ready.admitted.1.1) (h.has.holds.cells b ready.admitted.2.0) (h.has.holds.cells (b + 1) ready.admitted.2.1)
+              (h.has.holds.bytes a) (h.has.holds.bytes b));
+          at = eight_on v.core.place (load_size 16 a) (load_size 17 (a + 1)) (load_size 18 b) (load_size 19 (b + 1)) (store_size to 16) (store_size (to + 1)
+              17) _ _ h.at ready.next;
         },
       ))
 
-  pub add_number : (to a : ℕ) (b_low b_high : ℕ) → Ready (Word (words.Add to a (source.Number b_low b_high))) → StandsAt lay.places m s → Goes (Word (words.Add to a (source.Number b_low b_high)))
-  add_number to a b_low b_high ready st = coded (Word (words.Add to a (source.Number b_low b_high))) (Loads 16 a) (Loads 17 (a + 1) ∷ Plain (insn.Ldi 18 b_low) ∷ Plain (insn.Ldi 19 b_high) ∷ Plain (insn.Add 16 18) ∷ Plain (insn.Adc 17 19) ∷ Stores to 16 ∷ Stores (to + 1) 17 ∷ []) ready refl refl refl
-      ((lit< tt, ready.admitted.1.0), ((lit< tt, ready.admitted.1.1), ((lit≤ tt, lit< tt, ready.admitted.2.0), ((lit≤ tt, lit< tt, ready.admitted.2.1), ((lit< tt, lit< tt), ((lit< tt, lit< tt), ((lit< tt, ready.admitted.0.0), ((lit< tt, ready.admitted.0.1), tt)))))))) st
+  pub add_number : (to a : ℕ) (b_low b_high : ℕ) → Ready (Word (words.Add to a (source.Number b_low b_high))) → StandsAt lay.places m s → Goes (Word
+      (words.Add to a (source.Number b_low b_high)))
+  add_number to a b_low b_high ready st = coded (Word (words.Add to a (source.Number b_low b_high))) (Loads 16 a) (Loads 17 (a + 1) ∷ Plain (insn.Ldi 18
+      b_low) ∷ Plain (insn.Ldi 19 b_high) ∷ Plain (insn.Add 16 18) ∷ Plain (insn.Adc 17 19) ∷ Stores to 16 ∷ Stores (to + 1) 17 ∷ []) ready refl refl refl (
+        (lit< tt, ready.admitted.1.0),
+        (
+          (lit< tt, ready.admitted.1.1),
+          (
+            (lit≤ tt, lit< tt, ready.admitted.2.0),
+            (
+              (lit≤ tt, lit< tt, ready.admitted.2.1),
+              ((lit< tt, lit< tt), ((lit< tt, lit< tt), ((lit< tt, ready.admitted.0.0), ((lit< tt, ready.admitted.0.1), tt)))),
+            ),
+          ),
+        ),
+      ) st
       (λ v h. (
         le_more _,
         record {
-          has = has_word lay.places v _ s (alike v _ refl (λ port. refl) refl refl refl refl) h.has to _ _ ((word_at s.store a + word_from s.store (source.Number b_low b_high)) % 65536) ready.admitted.0.0 ready.admitted.0.1 refl
+          has = has_word lay.places v _ s (alike v _ refl (λ port. refl) refl refl refl refl) h.has to _ _ ((word_at s.store a + word_from s.store
+              (source.Number b_low b_high)) % 65536) ready.admitted.0.0 ready.admitted.0.1 refl
               (added_low (cell s.store a) (cell s.store (a + 1)) b_low b_high _ _ (h.has.holds.cells a ready.admitted.1.0) refl)
-              (added_high (cell s.store a) (cell s.store (a + 1)) b_low b_high _ _ _ _ (h.has.holds.cells a ready.admitted.1.0) (h.has.holds.cells (a + 1) ready.admitted.1.1) refl refl (h.has.holds.bytes a) ready.admitted.2.0);
+              (added_high (cell s.store a) (cell s.store (a + 1)) b_low b_high _ _ _ _ (h.has.holds.cells a ready.admitted.1.0) (h.has.holds.cells (a + 1)
+              ready.admitted.1.1) refl refl (h.has.holds.bytes a) ready.admitted.2.0);
           at = eight_on v.core.place (load_size 16 a) (load_size 17 (a + 1)) 1 1 (store_size to 16) (store_size (to + 1) 17) _ _ h.at ready.next;
         },
       ))
 
-  pub subtract_cells_cells : (to : ℕ) (a : ℕ) (b : ℕ) → Ready (Word (words.Subtract to (source.Cells a) (source.Cells b))) → StandsAt lay.places m s → Goes (Word (words.Subtract to (source.Cells a) (source.Cells b)))
-  subtract_cells_cells to a b ready st = coded (Word (words.Subtract to (source.Cells a) (source.Cells b))) (Loads 16 a) (Loads 17 (a + 1) ∷ Loads 18 b ∷ Loads 19 (b + 1) ∷ Plain (insn.Sub 16 18) ∷ Plain (insn.Sbc 17 19) ∷ Stores to 16 ∷ Stores (to + 1) 17 ∷ []) ready refl refl refl
-      ((lit< tt, ready.admitted.1.0), ((lit< tt, ready.admitted.1.1), ((lit< tt, ready.admitted.2.0), ((lit< tt, ready.admitted.2.1), ((lit< tt, lit< tt), ((lit< tt, lit< tt), ((lit< tt, ready.admitted.0.0), ((lit< tt, ready.admitted.0.1), tt)))))))) st
+  pub subtract_cells_cells : (to : ℕ) (a : ℕ) (b : ℕ) → Ready (Word (words.Subtract to (source.Cells a) (source.Cells b))) → StandsAt lay.places m s → Goes
+      (Word (words.Subtract to (source.Cells a) (source.Cells b)))
+  subtract_cells_cells to a b ready st = coded (Word (words.Subtract to (source.Cells a) (source.Cells b))) (Loads 16 a) (Loads 17 (a + 1) ∷ Loads 18 b ∷
+      Loads 19 (b + 1) ∷ Plain (insn.Sub 16 18) ∷ Plain (insn.Sbc 17 19) ∷ Stores to 16 ∷ Stores (to + 1) 17 ∷ []) ready refl refl refl (
+        (lit< tt, ready.admitted.1.0),
+        (
+          (lit< tt, ready.admitted.1.1),
+          (
+            (lit< tt, ready.admitted.2.0),
+            (
+              (lit< tt, ready.admitted.2.1),
+              (
+                (lit< tt, lit< tt),
+                ((lit< tt, lit< tt), ((lit< tt, ready.admitted.0.0), ((lit< tt, ready.admitted.0.1), tt))),
+              ),
+            ),
+          ),
+        ),
+      ) st
       (λ v h. (
         le_more _,
         record {
-          has = has_word lay.places v _ s (alike v _ refl (λ port. refl) refl refl refl refl) h.has to _ _ ((word_from s.store (source.Cells a) + (65536 - word_from s.store (source.Cells b))) % 65536) ready.admitted.0.0 ready.admitted.0.1 refl
-              (taken_low (cell s.store a) (cell s.store (a + 1)) (cell s.store b) (cell s.store (b + 1)) _ _ (h.has.holds.cells a ready.admitted.1.0) (h.has.holds.cells b ready.admitted.2.0) (h.has.holds.bytes a) (h.has.holds.bytes b) (h.has.holds.bytes (b + 1)))
-              (taken_high (cell s.store a) (cell s.store (a + 1)) (cell s.store b) (cell s.store (b + 1)) _ _ _ _ (h.has.holds.cells a ready.admitted.1.0) (h.has.holds.cells (a + 1) ready.admitted.1.1) (h.has.holds.cells b ready.admitted.2.0) (h.has.holds.cells (b + 1) ready.admitted.2.1) (h.has.holds.bytes a) (h.has.holds.bytes (a + 1)) (h.has.holds.bytes b) (h.has.holds.bytes (b + 1)));
-          at = eight_on v.core.place (load_size 16 a) (load_size 17 (a + 1)) (load_size 18 b) (load_size 19 (b + 1)) (store_size to 16) (store_size (to + 1) 17) _ _ h.at ready.next;
+          has = has_word lay.places v _ s (alike v _ refl (λ port. refl) refl refl refl refl) h.has to _ _ ((word_from s.store (source.Cells a) + (65536 -
+              word_from s.store (source.Cells b))) % 65536) ready.admitted.0.0 ready.admitted.0.1 refl
+              (taken_low (cell s.store a) (cell s.store (a + 1)) (cell s.store b) (cell s.store (b + 1)) _ _ (h.has.holds.cells a ready.admitted.1.0)
+              (h.has.holds.cells b ready.admitted.2.0) (h.has.holds.bytes a) (h.has.holds.bytes b) (h.has.holds.bytes (b + 1)))
+              (taken_high (cell s.store a) (cell s.store (a + 1)) (cell s.store b) (cell s.store (b + 1)) _ _ _ _ (h.has.holds.cells a ready.admitted.1.0)
+              (h.has.holds.cells (a + 1) ready.admitted.1.1) (h.has.holds.cells b ready.admitted.2.0) (h.has.holds.cells (b + 1) ready.admitted.2.1)
+              (h.has.holds.bytes a) (h.has.holds.bytes (a + 1)) (h.has.holds.bytes b) (h.has.holds.bytes (b + 1)));
+          at = eight_on v.core.place (load_size 16 a) (load_size 17 (a + 1)) (load_size 18 b) (load_size 19 (b + 1)) (store_size to 16) (store_size (to + 1)
+              17) _ _ h.at ready.next;
         },
       ))
 
-  pub subtract_cells_number : (to : ℕ) (a : ℕ) (b_low b_high : ℕ) → Ready (Word (words.Subtract to (source.Cells a) (source.Number b_low b_high))) → StandsAt lay.places m s → Goes (Word (words.Subtract to (source.Cells a) (source.Number b_low b_high)))
-  subtract_cells_number to a b_low b_high ready st = coded (Word (words.Subtract to (source.Cells a) (source.Number b_low b_high))) (Loads 16 a) (Loads 17 (a + 1) ∷ Plain (insn.Ldi 18 b_low) ∷ Plain (insn.Ldi 19 b_high) ∷ Plain (insn.Sub 16 18) ∷ Plain (insn.Sbc 17 19) ∷ Stores to 16 ∷ Stores (to + 1) 17 ∷ []) ready refl refl refl
-      ((lit< tt, ready.admitted.1.0), ((lit< tt, ready.admitted.1.1), ((lit≤ tt, lit< tt, ready.admitted.2.0), ((lit≤ tt, lit< tt, ready.admitted.2.1), ((lit< tt, lit< tt), ((lit< tt, lit< tt), ((lit< tt, ready.admitted.0.0), ((lit< tt, ready.admitted.0.1), tt)))))))) st
+  pub subtract_cells_number : (to : ℕ) (a : ℕ) (b_low b_high : ℕ) → Ready (Word (words.Subtract to (source.Cells a) (source.Number b_low b_high))) → StandsAt
+      lay.places m s → Goes (Word (words.Subtract to (source.Cells a) (source.Number b_low b_high)))
+  subtract_cells_number to a b_low b_high ready st = coded (Word (words.Subtract to (source.Cells a) (source.Number b_low b_high))) (Loads 16 a) (Loads 17 (a
+      + 1) ∷ Plain (insn.Ldi 18 b_low) ∷ Plain (insn.Ldi 19 b_high) ∷ Plain (insn.Sub 16 18) ∷ Plain (insn.Sbc 17 19) ∷ Stores to 16 ∷ Stores (to + 1) 17 ∷
+      []) ready refl refl refl (
+        (lit< tt, ready.admitted.1.0),
+        (
+          (lit< tt, ready.admitted.1.1),
+          (
+            (lit≤ tt, lit< tt, ready.admitted.2.0),
+            (
+              (lit≤ tt, lit< tt, ready.admitted.2.1),
+              ((lit< tt, lit< tt), ((lit< tt, lit< tt), ((lit< tt, ready.admitted.0.0), ((lit< tt, ready.admitted.0.1), tt)))),
+            ),
+          ),
+        ),
+      ) st
       (λ v h. (
         le_more _,
         record {
-          has = has_word lay.places v _ s (alike v _ refl (λ port. refl) refl refl refl refl) h.has to _ _ ((word_from s.store (source.Cells a) + (65536 - word_from s.store (source.Number b_low b_high))) % 65536) ready.admitted.0.0 ready.admitted.0.1 refl
-              (taken_low (cell s.store a) (cell s.store (a + 1)) b_low b_high _ _ (h.has.holds.cells a ready.admitted.1.0) refl (h.has.holds.bytes a) ready.admitted.2.0 ready.admitted.2.1)
-              (taken_high (cell s.store a) (cell s.store (a + 1)) b_low b_high _ _ _ _ (h.has.holds.cells a ready.admitted.1.0) (h.has.holds.cells (a + 1) ready.admitted.1.1) refl refl (h.has.holds.bytes a) (h.has.holds.bytes (a + 1)) ready.admitted.2.0 ready.admitted.2.1);
+          has = has_word lay.places v _ s (alike v _ refl (λ port. refl) refl refl refl refl) h.has to _ _ ((word_from s.store (source.Cells a) + (65536 -
+              word_from s.store (source.Number b_low b_high))) % 65536) ready.admitted.0.0 ready.admitted.0.1 refl
+              (taken_low (cell s.store a) (cell s.store (a + 1)) b_low b_high _ _ (h.has.holds.cells a ready.admitted.1.0) refl (h.has.holds.bytes a)
+              ready.admitted.2.0 ready.admitted.2.1)
+              (taken_high (cell s.store a) (cell s.store (a + 1)) b_low b_high _ _ _ _ (h.has.holds.cells a ready.admitted.1.0) (h.has.holds.cells (a + 1)
+              ready.admitted.1.1) refl refl (h.has.holds.bytes a) (h.has.holds.bytes (a + 1)) ready.admitted.2.0 ready.admitted.2.1);
           at = eight_on v.core.place (load_size 16 a) (load_size 17 (a + 1)) 1 1 (store_size to 16) (store_size (to + 1) 17) _ _ h.at ready.next;
         },
       ))
 
-  pub subtract_number_cells : (to : ℕ) (a_low a_high : ℕ) (b : ℕ) → Ready (Word (words.Subtract to (source.Number a_low a_high) (source.Cells b))) → StandsAt lay.places m s → Goes (Word (words.Subtract to (source.Number a_low a_high) (source.Cells b)))
-  subtract_number_cells to a_low a_high b ready st = coded (Word (words.Subtract to (source.Number a_low a_high) (source.Cells b))) (Plain (insn.Ldi 16 a_low)) (Plain (insn.Ldi 17 a_high) ∷ Loads 18 b ∷ Loads 19 (b + 1) ∷ Plain (insn.Sub 16 18) ∷ Plain (insn.Sbc 17 19) ∷ Stores to 16 ∷ Stores (to + 1) 17 ∷ []) ready refl refl refl
-      ((lit≤ tt, lit< tt, ready.admitted.1.0), ((lit≤ tt, lit< tt, ready.admitted.1.1), ((lit< tt, ready.admitted.2.0), ((lit< tt, ready.admitted.2.1), ((lit< tt, lit< tt), ((lit< tt, lit< tt), ((lit< tt, ready.admitted.0.0), ((lit< tt, ready.admitted.0.1), tt)))))))) st
+  pub subtract_number_cells : (to : ℕ) (a_low a_high : ℕ) (b : ℕ) → Ready (Word (words.Subtract to (source.Number a_low a_high) (source.Cells b))) → StandsAt
+      lay.places m s → Goes (Word (words.Subtract to (source.Number a_low a_high) (source.Cells b)))
+  subtract_number_cells to a_low a_high b ready st = coded (Word (words.Subtract to (source.Number a_low a_high) (source.Cells b))) (Plain (insn.Ldi 16
+      a_low)) (Plain (insn.Ldi 17 a_high) ∷ Loads 18 b ∷ Loads 19 (b + 1) ∷ Plain (insn.Sub 16 18) ∷ Plain (insn.Sbc 17 19) ∷ Stores to 16 ∷ Stores (to + 1)
+      17 ∷ []) ready refl refl refl (
+        (lit≤ tt, lit< tt, ready.admitted.1.0),
+        (
+          (lit≤ tt, lit< tt, ready.admitted.1.1),
+          (
+            (lit< tt, ready.admitted.2.0),
+            (
+              (lit< tt, ready.admitted.2.1),
+              ((lit< tt, lit< tt), ((lit< tt, lit< tt), ((lit< tt, ready.admitted.0.0), ((lit< tt, ready.admitted.0.1), tt)))),
+            ),
+          ),
+        ),
+      ) st
       (λ v h. (
         le_more _,
         record {
-          has = has_word lay.places v _ s (alike v _ refl (λ port. refl) refl refl refl refl) h.has to _ _ ((word_from s.store (source.Number a_low a_high) + (65536 - word_from s.store (source.Cells b))) % 65536) ready.admitted.0.0 ready.admitted.0.1 refl
-              (taken_low a_low a_high (cell s.store b) (cell s.store (b + 1)) _ _ refl (h.has.holds.cells b ready.admitted.2.0) ready.admitted.1.0 (h.has.holds.bytes b) (h.has.holds.bytes (b + 1)))
-              (taken_high a_low a_high (cell s.store b) (cell s.store (b + 1)) _ _ _ _ refl refl (h.has.holds.cells b ready.admitted.2.0) (h.has.holds.cells (b + 1) ready.admitted.2.1) ready.admitted.1.0 ready.admitted.1.1 (h.has.holds.bytes b) (h.has.holds.bytes (b + 1)));
+          has = has_word lay.places v _ s (alike v _ refl (λ port. refl) refl refl refl refl) h.has to _ _ ((word_from s.store (source.Number a_low a_high) +
+              (65536 - word_from s.store (source.Cells b))) % 65536) ready.admitted.0.0 ready.admitted.0.1 refl
+              (taken_low a_low a_high (cell s.store b) (cell s.store (b + 1)) _ _ refl (h.has.holds.cells b ready.admitted.2.0) ready.admitted.1.0
+              (h.has.holds.bytes b) (h.has.holds.bytes (b + 1)))
+              (taken_high a_low a_high (cell s.store b) (cell s.store (b + 1)) _ _ _ _ refl refl (h.has.holds.cells b ready.admitted.2.0) (h.has.holds.cells
+              (b + 1) ready.admitted.2.1) ready.admitted.1.0 ready.admitted.1.1 (h.has.holds.bytes b) (h.has.holds.bytes (b + 1)));
           at = eight_on v.core.place 1 1 (load_size 18 b) (load_size 19 (b + 1)) (store_size to 16) (store_size (to + 1) 17) _ _ h.at ready.next;
         },
       ))
 
-  pub subtract_number_number : (to : ℕ) (a_low a_high : ℕ) (b_low b_high : ℕ) → Ready (Word (words.Subtract to (source.Number a_low a_high) (source.Number b_low b_high))) → StandsAt lay.places m s → Goes (Word (words.Subtract to (source.Number a_low a_high) (source.Number b_low b_high)))
-  subtract_number_number to a_low a_high b_low b_high ready st = coded (Word (words.Subtract to (source.Number a_low a_high) (source.Number b_low b_high))) (Plain (insn.Ldi 16 a_low)) (Plain (insn.Ldi 17 a_high) ∷ Plain (insn.Ldi 18 b_low) ∷ Plain (insn.Ldi 19 b_high) ∷ Plain (insn.Sub 16 18) ∷ Plain (insn.Sbc 17 19) ∷ Stores to 16 ∷ Stores (to + 1) 17 ∷ []) ready refl refl refl
-      ((lit≤ tt, lit< tt, ready.admitted.1.0), ((lit≤ tt, lit< tt, ready.admitted.1.1), ((lit≤ tt, lit< tt, ready.admitted.2.0), ((lit≤ tt, lit< tt, ready.admitted.2.1), ((lit< tt, lit< tt), ((lit< tt, lit< tt), ((lit< tt, ready.admitted.0.0), ((lit< tt, ready.admitted.0.1), tt)))))))) st
+  pub subtract_number_number : (to : ℕ) (a_low a_high : ℕ) (b_low b_high : ℕ) → Ready (Word (words.Subtract to (source.Number a_low a_high) (source.Number
+      b_low b_high))) → StandsAt lay.places m s → Goes (Word (words.Subtract to (source.Number a_low a_high) (source.Number b_low b_high)))
+  subtract_number_number to a_low a_high b_low b_high ready st = coded (Word (words.Subtract to (source.Number a_low a_high) (source.Number b_low b_high)))
+      (Plain (insn.Ldi 16 a_low)) (Plain (insn.Ldi 17 a_high) ∷ Plain (insn.Ldi 18 b_low) ∷ Plain (insn.Ldi 19 b_high) ∷ Plain (insn.Sub 16 18) ∷
+      Plain (insn.Sbc 17 19) ∷ Stores to 16 ∷ Stores (to + 1) 17 ∷ []) ready refl refl refl (
+        (lit≤ tt, lit< tt, ready.admitted.1.0),
+        (
+          (lit≤ tt, lit< tt, ready.admitted.1.1),
+          (
+            (lit≤ tt, lit< tt, ready.admitted.2.0),
+            (
+              (
+                lit≤ tt,
+                lit< tt,
+                ready.admitted.2.1,
+              ),
+              ((lit< tt, lit< tt), ((lit< tt, lit< tt), ((lit< tt, ready.admitted.0.0), ((lit< tt, ready.admitted.0.1), tt)))),
+            ),
+          ),
+        ),
+      ) st
       (λ v h. (
         le_more _,
         record {
-          has = has_word lay.places v _ s (alike v _ refl (λ port. refl) refl refl refl refl) h.has to _ _ ((word_from s.store (source.Number a_low a_high) + (65536 - word_from s.store (source.Number b_low b_high))) % 65536) ready.admitted.0.0 ready.admitted.0.1 refl
+          has = has_word lay.places v _ s (alike v _ refl (λ port. refl) refl refl refl refl) h.has to _ _ ((word_from s.store (source.Number a_low a_high) +
+              (65536 - word_from s.store (source.Number b_low b_high))) % 65536) ready.admitted.0.0 ready.admitted.0.1 refl
               (taken_low a_low a_high b_low b_high _ _ refl refl ready.admitted.1.0 ready.admitted.2.0 ready.admitted.2.1)
               (taken_high a_low a_high b_low b_high _ _ _ _ refl refl refl refl ready.admitted.1.0 ready.admitted.1.1 ready.admitted.2.0 ready.admitted.2.1);
           at = eight_on v.core.place 1 1 1 1 (store_size to 16) (store_size (to + 1) 17) _ _ h.at ready.next;
@@ -438,7 +620,8 @@ module _ (lay : Layout) (m : AvrState) (s : Bytes) where
   After b l = if b then label_place lay.code l else suc s.place
 
   -- the loop's count is in R21
-  pub loops_on : (l : ℕ) → Ready (JumpWhere test.LoopsOn l) → slice_index lay.places (act lay.code (JumpWhere test.LoopsOn l) s false no_reading).next.place < 8192 →
+  pub loops_on : (l : ℕ) → Ready (JumpWhere test.LoopsOn l) → slice_index lay.places (act lay.code (JumpWhere test.LoopsOn l) s false no_reading).next.place
+      < 8192 →
       StandsAt lay.places m s → Goes (JumpWhere test.LoopsOn l)
   loops_on l ready low st =
       let named = ready.label l refl in
@@ -464,8 +647,14 @@ module _ (lay : Layout) (m : AvrState) (s : Bytes) where
           (λ t.
           let gone : slice_index lay.places (After (not (cell (count_of 21) 21 == 0)) l) ≡ slice_index lay.places (suc s.place) =
           ap (λ b. slice_index lay.places (After b l)) (says true t) in
-          let at = four_words v.core.place (slice_index lay.places s.place) (slice_index lay.places (suc s.place)) h.at next in
-          (subst (λ n. n < 8192) (gone ∙ sym at) low, record { has = elsewhere lay.places _ _ _ (taken _ refl (alike v _ refl (λ port. refl) refl refl refl refl)); at = at ∙ sym gone }))
+          let at = four_words v.core.place (slice_index lay.places s.place) (slice_index lay.places (suc s.place)) h.at next in (
+            subst (λ n. n < 8192) (gone ∙ sym at) low,
+            record {
+              has = elsewhere lay.places _ _ _ (taken _ refl (alike v _ refl (λ port. refl) refl refl refl
+                  refl));
+              at = at ∙ sym gone;
+            },
+          ))
           (λ t. record {
             has = elsewhere lay.places _ _ _ (taken _ refl (alike v _ refl (λ port. refl) refl refl refl refl));
             at = named.0 ∙ sym (ap (λ b. slice_index lay.places (After b l)) (says false t));
@@ -506,14 +695,17 @@ module _ (lay : Layout) (m : AvrState) (s : Bytes) where
           let at = three_words v.core.place (slice_index lay.places s.place) (slice_index lay.places (suc s.place)) h.at next in (
             subst (λ n. n < 8192) (gone ∙ sym at) low,
             record {
-              has = has_same lay.places v _ s (alike v _ refl (λ port. refl) refl refl refl refl) h.has s.store.flag (After (same (value_of s.store.flag) is) l) refl
+              has = has_same lay.places v _ s (alike v _ refl (λ port. refl) refl refl refl refl) h.has s.store.flag (After (same (value_of s.store.flag) is)
+                  l) refl
                   (flag_kept v.core (v.core.place + 1 + 2) 2 s.store.flag h.has.flag);
               at = at ∙ sym gone;
             },
           ))
           (λ t. record {
-            has = has_same lay.places v _ s (alike v _ refl (λ port. refl) refl refl refl refl) h.has s.store.flag (After (same (value_of s.store.flag) is) l) refl
-                (flag_kept (at_place v.core (v.core.place + 1) 1) (slice_index lay.labels l) 3 s.store.flag (flag_kept v.core (v.core.place + 1) 1 s.store.flag h.has.flag));
+            has = has_same lay.places v _ s (alike v _ refl (λ port. refl) refl refl refl refl) h.has s.store.flag (After (same (value_of s.store.flag) is)
+                l) refl
+                (flag_kept (at_place v.core (v.core.place + 1) 1) (slice_index lay.labels l) 3 s.store.flag (flag_kept v.core (v.core.place + 1) 1
+                s.store.flag h.has.flag));
             at = named.0 ∙ sym (ap (λ b. slice_index lay.places (After b l)) (same_yes (value_of s.store.flag) is (sym value ∙ t)));
           })
 
@@ -528,67 +720,135 @@ module _ (lay : Layout) (m : AvrState) (s : Bytes) where
           coded (JumpWhere (test.Flag k false) l) (Plain (insn.Brbs (status_bit k) 2)) (Plain (insn.Jmp (slice_index lay.labels l)) ∷ []) ready refl refl refl
           ((status_low k, lit< tt), (named.1, tt)) st (fork false named ready.fits.1 ready.next low)
 
-  pub less_cells : (a : ℕ) (b : ℕ) → Ready (Compare (compares.Less a (source.Cells b))) → StandsAt lay.places m s → Goes (Compare (compares.Less a (source.Cells b)))
-  less_cells a b ready st = coded (Compare (compares.Less a (source.Cells b))) (Loads 16 a) (Loads 17 (a + 1) ∷ Loads 18 b ∷ Loads 19 (b + 1) ∷ Plain (insn.Cp 16 18) ∷ Plain (insn.Cpc 17 19) ∷ []) ready refl refl refl
-      ((lit< tt, ready.admitted.0.0), ((lit< tt, ready.admitted.0.1), ((lit< tt, ready.admitted.1.0), ((lit< tt, ready.admitted.1.1), ((lit< tt, lit< tt), ((lit< tt, lit< tt), tt)))))) st
+  pub less_cells : (a : ℕ) (b : ℕ) → Ready (Compare (compares.Less a (source.Cells b))) → StandsAt lay.places m s → Goes (Compare (compares.Less a
+      (source.Cells b)))
+  less_cells a b ready st = coded (Compare (compares.Less a (source.Cells b))) (Loads 16 a) (Loads 17 (a + 1) ∷ Loads 18 b ∷ Loads 19 (b + 1) ∷
+      Plain (insn.Cp 16 18) ∷ Plain (insn.Cpc 17 19) ∷ []) ready refl refl refl (
+        (lit< tt, ready.admitted.0.0),
+        (
+          (lit< tt, ready.admitted.0.1),
+          (
+            (lit< tt, ready.admitted.1.0),
+            (
+              (lit< tt, ready.admitted.1.1),
+              (
+                (lit< tt, lit< tt),
+                ((lit< tt, lit< tt), tt),
+              ),
+            ),
+          ),
+        ),
+      ) st
       (λ v h. (
         le_more _,
         record {
           has = has_same lay.places v _ s (alike v _ refl (λ port. refl) refl refl refl refl) h.has
-              (Some (record { kind = kind.Less; value = nat_lt (lifted (word_at s.store a)) (lifted (word_from s.store (source.Cells b))) })) (suc s.place) refl
-              (less_flag (cell s.store a) (cell s.store (a + 1)) (cell s.store b) (cell s.store (b + 1)) _ _ _ _ (h.has.holds.cells a ready.admitted.0.0) (h.has.holds.cells (a + 1) ready.admitted.0.1) (h.has.holds.cells b ready.admitted.1.0) (h.has.holds.cells (b + 1) ready.admitted.1.1) (h.has.holds.bytes a) (h.has.holds.bytes (a + 1)) (h.has.holds.bytes b) (h.has.holds.bytes (b + 1)));
+              (Some (record { kind = kind.Less; value = nat_lt (lifted (word_at s.store a)) (lifted (word_from s.store (source.Cells b))) })) (suc s.place)
+              refl
+              (less_flag (cell s.store a) (cell s.store (a + 1)) (cell s.store b) (cell s.store (b + 1)) _ _ _ _ (h.has.holds.cells a ready.admitted.0.0)
+              (h.has.holds.cells (a + 1) ready.admitted.0.1) (h.has.holds.cells b ready.admitted.1.0) (h.has.holds.cells (b + 1) ready.admitted.1.1)
+              (h.has.holds.bytes a) (h.has.holds.bytes (a + 1)) (h.has.holds.bytes b) (h.has.holds.bytes (b + 1)));
           at = six_on v.core.place (load_size 16 a) (load_size 17 (a + 1)) (load_size 18 b) (load_size 19 (b + 1)) _ _ h.at ready.next;
         },
       ))
 
-  pub less_number : (a : ℕ) (b_low b_high : ℕ) → Ready (Compare (compares.Less a (source.Number b_low b_high))) → StandsAt lay.places m s → Goes (Compare (compares.Less a (source.Number b_low b_high)))
-  less_number a b_low b_high ready st = coded (Compare (compares.Less a (source.Number b_low b_high))) (Loads 16 a) (Loads 17 (a + 1) ∷ Plain (insn.Ldi 18 b_low) ∷ Plain (insn.Ldi 19 b_high) ∷ Plain (insn.Cp 16 18) ∷ Plain (insn.Cpc 17 19) ∷ []) ready refl refl refl
-      ((lit< tt, ready.admitted.0.0), ((lit< tt, ready.admitted.0.1), ((lit≤ tt, lit< tt, ready.admitted.1.0), ((lit≤ tt, lit< tt, ready.admitted.1.1), ((lit< tt, lit< tt), ((lit< tt, lit< tt), tt)))))) st
+  pub less_number : (a : ℕ) (b_low b_high : ℕ) → Ready (Compare (compares.Less a (source.Number b_low b_high))) → StandsAt lay.places m s → Goes (Compare
+      (compares.Less a (source.Number b_low b_high)))
+  less_number a b_low b_high ready st = coded (Compare (compares.Less a (source.Number b_low b_high))) (Loads 16 a) (Loads 17 (a + 1) ∷ Plain (insn.Ldi 18
+      b_low) ∷ Plain (insn.Ldi 19 b_high) ∷ Plain (insn.Cp 16 18) ∷ Plain (insn.Cpc 17 19) ∷ []) ready refl refl refl (
+        (lit< tt, ready.admitted.0.0),
+        (
+          (lit< tt, ready.admitted.0.1),
+          (
+            (lit≤ tt, lit< tt, ready.admitted.1.0),
+            (
+              (lit≤ tt, lit< tt, ready.admitted.1.1),
+              ((lit< tt, lit< tt), ((lit< tt, lit< tt), tt)),
+            ),
+          ),
+        ),
+      ) st
       (λ v h. (
         le_more _,
         record {
           has = has_same lay.places v _ s (alike v _ refl (λ port. refl) refl refl refl refl) h.has
-              (Some (record { kind = kind.Less; value = nat_lt (lifted (word_at s.store a)) (lifted (word_from s.store (source.Number b_low b_high))) })) (suc s.place) refl
-              (less_flag (cell s.store a) (cell s.store (a + 1)) b_low b_high _ _ _ _ (h.has.holds.cells a ready.admitted.0.0) (h.has.holds.cells (a + 1) ready.admitted.0.1) refl refl (h.has.holds.bytes a) (h.has.holds.bytes (a + 1)) ready.admitted.1.0 ready.admitted.1.1);
+              (Some (record { kind = kind.Less; value = nat_lt (lifted (word_at s.store a)) (lifted (word_from s.store (source.Number b_low b_high))) }))
+              (suc s.place) refl
+              (less_flag (cell s.store a) (cell s.store (a + 1)) b_low b_high _ _ _ _ (h.has.holds.cells a ready.admitted.0.0) (h.has.holds.cells (a + 1)
+              ready.admitted.0.1) refl refl (h.has.holds.bytes a) (h.has.holds.bytes (a + 1)) ready.admitted.1.0 ready.admitted.1.1);
           at = six_on v.core.place (load_size 16 a) (load_size 17 (a + 1)) 1 1 _ _ h.at ready.next;
         },
       ))
 
-  pub equal_cells : (a : ℕ) (b : ℕ) → Ready (Compare (compares.Equal a (source.Cells b))) → StandsAt lay.places m s → Goes (Compare (compares.Equal a (source.Cells b)))
-  equal_cells a b ready st = coded (Compare (compares.Equal a (source.Cells b))) (Loads 16 a) (Loads 17 (a + 1) ∷ Loads 18 b ∷ Loads 19 (b + 1) ∷ Plain (insn.Cp 16 18) ∷ Plain (insn.Cpc 17 19) ∷ []) ready refl refl refl
-      ((lit< tt, ready.admitted.0.0), ((lit< tt, ready.admitted.0.1), ((lit< tt, ready.admitted.1.0), ((lit< tt, ready.admitted.1.1), ((lit< tt, lit< tt), ((lit< tt, lit< tt), tt)))))) st
+  pub equal_cells : (a : ℕ) (b : ℕ) → Ready (Compare (compares.Equal a (source.Cells b))) → StandsAt lay.places m s → Goes (Compare (compares.Equal a
+      (source.Cells b)))
+  equal_cells a b ready st = coded (Compare (compares.Equal a (source.Cells b))) (Loads 16 a) (Loads 17 (a + 1) ∷ Loads 18 b ∷ Loads 19 (b + 1) ∷
+      Plain (insn.Cp 16 18) ∷ Plain (insn.Cpc 17 19) ∷ []) ready refl refl refl (
+        (lit< tt, ready.admitted.0.0),
+        (
+          (lit< tt, ready.admitted.0.1),
+          (
+            (lit< tt, ready.admitted.1.0),
+            (
+              (lit< tt, ready.admitted.1.1),
+              (
+                (lit< tt, lit< tt),
+                ((lit< tt, lit< tt), tt),
+              ),
+            ),
+          ),
+        ),
+      ) st
       (λ v h. (
         le_more _,
         record {
           has = has_same lay.places v _ s (alike v _ refl (λ port. refl) refl refl refl refl) h.has
               (Some (record { kind = kind.Equal; value = word_at s.store a == word_from s.store (source.Cells b) })) (suc s.place) refl
-              (equal_flag (cell s.store a) (cell s.store (a + 1)) (cell s.store b) (cell s.store (b + 1)) _ _ _ _ (h.has.holds.cells a ready.admitted.0.0) (h.has.holds.cells (a + 1) ready.admitted.0.1) (h.has.holds.cells b ready.admitted.1.0) (h.has.holds.cells (b + 1) ready.admitted.1.1) (h.has.holds.bytes a) (h.has.holds.bytes (a + 1)) (h.has.holds.bytes b) (h.has.holds.bytes (b + 1)));
+              (equal_flag (cell s.store a) (cell s.store (a + 1)) (cell s.store b) (cell s.store (b + 1)) _ _ _ _ (h.has.holds.cells a ready.admitted.0.0)
+              (h.has.holds.cells (a + 1) ready.admitted.0.1) (h.has.holds.cells b ready.admitted.1.0) (h.has.holds.cells (b + 1) ready.admitted.1.1)
+              (h.has.holds.bytes a) (h.has.holds.bytes (a + 1)) (h.has.holds.bytes b) (h.has.holds.bytes (b + 1)));
           at = six_on v.core.place (load_size 16 a) (load_size 17 (a + 1)) (load_size 18 b) (load_size 19 (b + 1)) _ _ h.at ready.next;
         },
       ))
 
-  pub equal_number : (a : ℕ) (b_low b_high : ℕ) → Ready (Compare (compares.Equal a (source.Number b_low b_high))) → StandsAt lay.places m s → Goes (Compare (compares.Equal a (source.Number b_low b_high)))
-  equal_number a b_low b_high ready st = coded (Compare (compares.Equal a (source.Number b_low b_high))) (Loads 16 a) (Loads 17 (a + 1) ∷ Plain (insn.Ldi 18 b_low) ∷ Plain (insn.Ldi 19 b_high) ∷ Plain (insn.Cp 16 18) ∷ Plain (insn.Cpc 17 19) ∷ []) ready refl refl refl
-      ((lit< tt, ready.admitted.0.0), ((lit< tt, ready.admitted.0.1), ((lit≤ tt, lit< tt, ready.admitted.1.0), ((lit≤ tt, lit< tt, ready.admitted.1.1), ((lit< tt, lit< tt), ((lit< tt, lit< tt), tt)))))) st
+  pub equal_number : (a : ℕ) (b_low b_high : ℕ) → Ready (Compare (compares.Equal a (source.Number b_low b_high))) → StandsAt lay.places m s → Goes (Compare
+      (compares.Equal a (source.Number b_low b_high)))
+  equal_number a b_low b_high ready st = coded (Compare (compares.Equal a (source.Number b_low b_high))) (Loads 16 a) (Loads 17 (a + 1) ∷ Plain (insn.Ldi 18
+      b_low) ∷ Plain (insn.Ldi 19 b_high) ∷ Plain (insn.Cp 16 18) ∷ Plain (insn.Cpc 17 19) ∷ []) ready refl refl refl (
+        (lit< tt, ready.admitted.0.0),
+        (
+          (lit< tt, ready.admitted.0.1),
+          (
+            (lit≤ tt, lit< tt, ready.admitted.1.0),
+            (
+              (lit≤ tt, lit< tt, ready.admitted.1.1),
+              ((lit< tt, lit< tt), ((lit< tt, lit< tt), tt)),
+            ),
+          ),
+        ),
+      ) st
       (λ v h. (
         le_more _,
         record {
           has = has_same lay.places v _ s (alike v _ refl (λ port. refl) refl refl refl refl) h.has
               (Some (record { kind = kind.Equal; value = word_at s.store a == word_from s.store (source.Number b_low b_high) })) (suc s.place) refl
-              (equal_flag (cell s.store a) (cell s.store (a + 1)) b_low b_high _ _ _ _ (h.has.holds.cells a ready.admitted.0.0) (h.has.holds.cells (a + 1) ready.admitted.0.1) refl refl (h.has.holds.bytes a) (h.has.holds.bytes (a + 1)) ready.admitted.1.0 ready.admitted.1.1);
+              (equal_flag (cell s.store a) (cell s.store (a + 1)) b_low b_high _ _ _ _ (h.has.holds.cells a ready.admitted.0.0) (h.has.holds.cells (a + 1)
+              ready.admitted.0.1) refl refl (h.has.holds.bytes a) (h.has.holds.bytes (a + 1)) ready.admitted.1.0 ready.admitted.1.1);
           at = six_on v.core.place (load_size 16 a) (load_size 17 (a + 1)) 1 1 _ _ h.at ready.next;
         },
       ))
 
   pub below : (a n : ℕ) → Ready (Compare (compares.Below a n)) → StandsAt lay.places m s → Goes (Compare (compares.Below a n))
-  below a n ready st = coded (Compare (compares.Below a n)) (Loads 16 a) (Loads 17 (a + 1) ∷ Plain (insn.Cpi 16 n) ∷ Plain (insn.Cpc 17 1) ∷ []) ready refl refl refl
+  below a n ready st = coded (Compare (compares.Below a n)) (Loads 16 a) (Loads 17 (a + 1) ∷ Plain (insn.Cpi 16 n) ∷ Plain (insn.Cpc 17 1) ∷ []) ready refl
+      refl refl
       ((lit< tt, ready.admitted.0.0), ((lit< tt, ready.admitted.0.1), ((lit≤ tt, lit< tt, ready.admitted.1), ((lit< tt, lit< tt), tt)))) st
       (λ v h. (
         le_more _,
         record {
           has = has_same lay.places v _ s (alike v _ refl (λ port. refl) refl refl refl refl) h.has
               (Some (record { kind = kind.Below; value = nat_lt (word_at s.store a) n })) (suc s.place) refl
-              (ap₂ (λ x y. nat_lt y (v.work 1 + as_bit (nat_lt x (n + 0)))) (h.has.holds.cells a ready.admitted.0.0) (h.has.holds.cells (a + 1) ready.admitted.0.1)
+              (ap₂ (λ x y. nat_lt y (v.work 1 + as_bit (nat_lt x (n + 0)))) (h.has.holds.cells a ready.admitted.0.0) (h.has.holds.cells (a + 1)
+              ready.admitted.0.1)
               ∙ below_words (cell s.store a) (cell s.store (a + 1)) n (v.work 1) (h.has.started ready.begins).zero (h.has.holds.bytes a) ready.admitted.1);
           at = four_on v.core.place (load_size 16 a) (load_size 17 (a + 1)) 1 1 _ _ h.at ready.next;
         },

@@ -143,7 +143,8 @@ cell_after : (xs : List ℕ) (f : ℕ → ℕ) (a x y : ℕ) → length xs ≡ 1
 cell_after xs f a x y all low e b was =
     ap₂ (λ p q. if b == a then p else q) e was ∙ sym (set_index xs a y b (omega (arith, all, low)))
 
-byte_after : (xs : List ℕ) (a y : ℕ) → length xs ≡ 1120 → a < 1120 → y < 256 → ((b : ℕ) → slice_index xs b < 256) → (b : ℕ) → slice_index (slice_set xs a y) b < 256
+byte_after : (xs : List ℕ) (a y : ℕ) → length xs ≡ 1120 → a < 1120 → y < 256 → ((b : ℕ) → slice_index xs b < 256) → (b : ℕ) → slice_index (slice_set xs a y)
+    b < 256
 byte_after xs a y all low small bytes b =
     subst (λ n. n < 256) (sym (set_index xs a y b (omega (arith, all, low)))) (by (b == a))
   where
@@ -164,7 +165,8 @@ pub record Alike (v w : View) : Type 0 where
   pub stack : w.core.stack ≡ v.core.stack
   pub zero : w.work 1 ≡ v.work 1
 
-pub alike : (v w : View) → w.core.devices.reading ≡ v.core.devices.reading → ((port : ℕ) → (port_of w.core.devices port).latch ≡ (port_of v.core.devices port).latch) →
+pub alike : (v w : View) → w.core.devices.reading ≡ v.core.devices.reading → ((port : ℕ) → (port_of w.core.devices port).latch ≡ (port_of v.core.devices
+    port).latch) →
     is_timing w.core.devices ≡ is_timing v.core.devices → w.core.devices.timer.flag ≡ v.core.devices.timer.flag → w.core.stack ≡ v.core.stack →
     w.work 1 ≡ v.work 1 → Alike v w
 alike v w a b c d e f = record { reading = a; latches = b; timing = c; quiet = d; stack = e; zero = f }
@@ -183,7 +185,13 @@ module _ (places : List ℕ) (v w : View) (s : Bytes) (k : Alike v w) (st : Has 
   }
 
   -- no cell changes
-  pub has_same : (o : Option Flag) (place : ℕ) → w.cells ≡ v.cells → HasFlag w.core o → Has places w (record s { place = place; store = record s.store { flag = o } })
+  pub has_same : (o : Option Flag) (place : ℕ) → w.cells ≡ v.cells → HasFlag w.core o → Has places w (record s {
+    place = place;
+    store = record s.store {
+      flag
+          = o;
+    };
+  })
   has_same o place same f = record {
     holds = record {
       all = st.holds.all;

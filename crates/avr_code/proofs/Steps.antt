@@ -33,9 +33,11 @@ settled_by flash next a = gone (settled mega16 flash next a.state a.acted.flow a
 
 -- the step of the instruction that stands at the machine's place
 pub step_is : (flash : List ℕ) (m : AvrState) (i : AvrInsn) (ready : Bool) (r : PinReading) → m.place < 8192 → insn_at mega16 flash m.place ≡ Some i →
-    obstacle mega16 i m ≡ None → steps_over (avr_step mega16) flash m ready r ≡ settled_by flash (m.place + size_of i) (exec mega16 (env_of ready r) i m.place m)
+    obstacle mega16 i m ≡ None → steps_over (avr_step mega16) flash m ready r ≡ settled_by flash (m.place + size_of i) (exec mega16 (env_of ready r) i
+    m.place m)
 step_is flash m i ready r low stands free =
-    ap (λ b. gone (if b then step_by mega16 flash (env_of ready r) m (insn_at mega16 flash m.place) else stuck mega16 flash m PastFlash)) (lt-ltb m.place 8192 low)
+    ap (λ b. gone (if b then step_by mega16 flash (env_of ready r) m (insn_at mega16 flash m.place) else stuck mega16 flash m PastFlash)) (lt-ltb m.place
+    8192 low)
     ∙ ap (λ o. gone (step_by mega16 flash (env_of ready r) m o)) stands
     ∙ ap (λ o. gone (unless_stuck mega16 flash (env_of ready r) m i o)) free
 

@@ -83,7 +83,8 @@ see_put v d x r = see_work v d x r (is_work d) (is_work r) refl refl
 
 pub set_index : (xs : List ℕ) (d x r : ℕ) → d < length xs → slice_index (slice_set xs d x) r ≡ (if r == d then x else slice_index xs r)
 set_index xs d x r lt = ⊎_elim
-    (λ (same : r ≡ d). ap (λ n. get_or (set xs d x) n 0) same ∙ get_or-set_same xs d x 0 lt ∙ sym (ap (λ b. if b then x else get_or xs r 0) (eq-eqb r d same)))
+    (λ (same : r ≡ d). ap (λ n. get_or (set xs d x) n 0) same ∙ get_or-set_same xs d x 0 lt ∙ sym (ap (λ b. if b then x else get_or xs r 0) (eq-eqb r d
+    same)))
     (λ (other : r ≢ d). get_or-set_other xs d r x 0 other ∙ sym (ap (λ b. if b then x else get_or xs r 0) (ne_eqb r d other)))
     (cases_eq r d)
 

@@ -58,7 +58,8 @@ sizes insn.Nop = inl refl
 -- these stand in flash from a place on
 abbrev pub HasCode : List ℕ → ℕ → List Piece → Type 0
 HasCode flash here [] = Unit {0}
-HasCode flash here (p ∷ ps) = (here + size_of (insn_of p) ≤ 8192) × (insn_at mega16 flash here ≡ Some (insn_of p)) × HasCode flash (here + size_of (insn_of p)) ps
+HasCode flash here (p ∷ ps) = (here + size_of (insn_of p) ≤ 8192) × (insn_at mega16 flash here ≡ Some (insn_of p)) × HasCode flash (here + size_of (insn_of
+    p)) ps
 
 abbrev pub AllFit : List Piece → Type 0
 AllFit [] = Unit {0}
@@ -83,7 +84,10 @@ two_words i flash here ws fit inside h =
     let e : suc (suc here) ≡ here + 2 = omega arith in
     let f : here + 1 ≡ suc here = omega arith in (
       ap (λ w. avr_decode w (word_at mega16 flash (here + 1))) (word_is flash here (first_word i) (omega (arith, inside)) h.0)
-          ∙ undone i fit (word_at mega16 flash (here + 1)) (λ two. ap (word_at mega16 flash) f ∙ word_is flash (suc here) (second_word i) (omega (arith, inside)) h.1.0),
+          ∙ undone i fit (word_at mega16 flash (here + 1)) (λ two. ap (word_at mega16 flash) f ∙ word_is flash (suc here) (second_word i) (omega (
+            arith,
+            inside,
+          )) h.1.0),
       subst (λ n. HasAt flash n ws) e h.1.1,
     )
 

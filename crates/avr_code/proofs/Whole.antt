@@ -173,7 +173,8 @@ module _ (lay : Layout) (m : AvrState) (s : Bytes) (st : StandsAt lay.places m s
   word_goes words.MultiplyStep ready = absurd ready.admitted
   word_goes words.DivideStep ready = absurd ready.admitted
 
-  plainly : (p : BytePrim) → Ready p → asked_by p ≡ ask.Nothing → slice_index lay.places (act lay.code p s false no_reading).next.place < 8192 → law.Goes lay m s p
+  plainly : (p : BytePrim) → Ready p → asked_by p ≡ ask.Nothing → slice_index lay.places (act lay.code p s false no_reading).next.place < 8192 → law.Goes lay
+      m s p
   plainly (Label l) ready q low = law.label lay m s l ready st
   plainly (Jump l) ready q low = law.jump lay m s l ready st
   plainly (JumpWhere test.LoopsOn l) ready q low = law.loops_on lay m s l ready low st
