@@ -103,7 +103,7 @@ worded (JumpWhere test.Writes l) h e = absurd h
 worded (JumpWhere test.NoneWaits l) h e = absurd h
 worded (Byte (bytes.Put to x)) h e = some_words (code_of (Byte (bytes.Put to x)) []) tt
 worded (Byte (bytes.Copy to from)) h e = some_words (code_of (Byte (bytes.Copy to from)) []) tt
-worded (Byte (bytes.Xor to a b)) h e = absurd h
+worded (Byte (bytes.Xor to a b)) h e = some_words (code_of (Byte (bytes.Xor to a b)) []) tt
 worded (Word op) h e = word_words op h
 worded (Call l) h e = lit< tt
 worded Return h e = lit< tt
@@ -186,7 +186,7 @@ module _ (lay : Layout) (m : AvrState) (s : Bytes) (st : StandsAt lay.places m s
   plainly (JumpWhere test.NoneWaits l) ready q low = absurd ready.admitted
   plainly (Byte (bytes.Put to x)) ready q low = law.put_byte lay m s to x ready st
   plainly (Byte (bytes.Copy to from)) ready q low = law.copy_byte lay m s to from ready st
-  plainly (Byte (bytes.Xor to a b)) ready q low = absurd ready.admitted
+  plainly (Byte (bytes.Xor to a b)) ready q low = law.exclusive_or lay m s to a b ready st
   plainly (Word op) ready q low = word_goes op ready
   plainly (Call l) ready q low = control.call lay m s l ready st
   plainly Return ready q low = control.return lay m s ready st

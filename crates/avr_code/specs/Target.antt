@@ -41,7 +41,7 @@ AdmitsTest test.NoneWaits = ⊥
 abbrev pub AdmitsByte : ByteOp → Type 0
 AdmitsByte (bytes.Put to x) = IsCell to × (x < 256)
 AdmitsByte (bytes.Copy to from) = IsCell to × IsCell from
-AdmitsByte (bytes.Xor to a b) = ⊥
+AdmitsByte (bytes.Xor to a b) = IsCell to × IsCell a × IsCell b
 
 abbrev pub AdmitsWord : WordOp → Type 0
 AdmitsWord (words.Move to from) = IsWord to × ReadsWord from
@@ -58,8 +58,8 @@ AdmitsCompare (compares.Less a b) = IsWord a × ReadsWord b
 AdmitsCompare (compares.Equal a b) = IsWord a × ReadsWord b
 AdmitsCompare (compares.Below a n) = IsWord a × (n < 256)
 
--- The cycle poll, calls, jumps but those by a bit or a device, bytes, words and comparisons. Not yet: the start, bits, exclusive ors, the steps of
--- products and quotients, devices and tables.
+-- The cycle poll, calls, jumps but those by a bit or a device, bytes, words and comparisons. Not yet: the start, bits, negations, the steps of products
+-- and quotients, devices and tables.
 abbrev pub Admits : BytePrim → Type 0
 Admits (Label l) = Unit {0}
 Admits (Jump l) = Unit {0}

@@ -20,5 +20,7 @@ pub fn code_is_lawful()
 /// Whatever its registers and its SRAM hold, the ATmega16 at reset stands for the byte machine in front of its first step, with these cells.
 #[tactic(auto, using(crate::proofs::Resets::reset_stands))]
 pub fn reset_is_fresh()
-    ensures { (sram regs eeprom cells held : List ℕ) (settings : Settings) (places : List ℕ) → length regs ≡ 32 → length sram ≡ SRAM_BYTES → HasCells cells regs sram → slice_index places 0 ≡ 0 → StandsAt places (reset_state sram regs eeprom settings) (fresh Mega16 cells held avr_scratch).bytes }
+    ensures { (sram regs eeprom cells held : List ℕ) (settings : Settings) (places : List ℕ) → length regs ≡ 32 → length sram ≡ SRAM_BYTES →
+        HasCells cells regs sram → slice_index places 0 ≡ 0 →
+        StandsAt places (reset_state sram regs eeprom settings) (fresh Mega16 cells held avr_scratch).bytes }
 {}
