@@ -1,0 +1,13 @@
+pub mod View
+pub mod Walk
+pub mod Steps
+pub mod Effects
+pub mod Paths
+pub mod Standing
+pub mod Sums
+pub mod Compares
+pub mod Primitives
+pub mod Control
+pub mod Polling
+pub mod Whole
+pub mod Resets
