@@ -1,5 +1,6 @@
 -- Each primitive of a program's code is one that code for its layout may have.
 use Rattle.std.proofs.Common.{◌≡◌, ℕ, zero, suc, ◌+◌, ◌-◌, ◌/◌, ◌<◌, ◌≤◌, Bool, true, false, List, [], ◌∷◌, ◌++◌, length, Option, Some, None, ℤ, pos, refl, sym, ap, ◌∙◌, arith}
+use Rattle.std.proofs.lemmas.Bool.{and_from, or_left, or_right}
 use Rattle.std.specs.Prelude.{◌&&◌, ◌||◌, ◌==◌, nat_lt, nat_le, if◌then◌else◌, int_lt, All}
 use Rattle.std.specs.List.{list_any, list_all}
 use Rattle.std.specs.Ordering.{int_eq}
@@ -38,23 +39,11 @@ use Rattle.byte_lower.specs.Outfit.{outfit_of}
 use Rattle.byte_lower.specs.declared.guard.Guard.{Guard}
 use Rattle.byte_lower.specs.declared.layout.Layout.{Layout}
 
-or_first : (a b : Bool) → a ≡ true → a || b ≡ true
-or_first true b e = refl
-or_first false b e = absurd (cc)
-
-or_second : (a b : Bool) → b ≡ true → a || b ≡ true
-or_second true b e = refl
-or_second false b e = e
-
-and_both : (a b : Bool) → a ≡ true → b ≡ true → a && b ≡ true
-and_both true b e f = f
-and_both false b e f = absurd (cc)
-
 low_register : (a : ℕ) → 2 ≤ a → a < 16 → is_scratch Mega16 a ≡ true
 low_register a h g =
     let e : nat_le 2 a ≡ true = grind (arith, nat_tests, h) in
     let f : nat_lt a 16 ≡ true = grind (arith, nat_tests, g) in
-    or_second (a == 0) _ (or_first (nat_le 2 a && nat_lt a 16) _ (and_both (nat_le 2 a) (nat_lt a 16) e f))
+    or_right (a == 0) _ (or_left (nat_le 2 a && nat_lt a 16) _ (and_from (nat_le 2 a) (nat_lt a 16) e f))
 
 avr_scratch_cell : (w : ℕ) → w < 48 → AvrWire w → is_scratch Mega16 (avr_wire w).address ≡ true
 avr_scratch_cell w h (power e f) = ap (λ p. is_scratch Mega16 p.address) f
@@ -67,19 +56,19 @@ pic_scratch_cell w h =
     let high : 0x70 + w / 8 < 0x80 = omega (arith, h) in
     let e : nat_le 0x70 (0x70 + w / 8) ≡ true = grind (arith, nat_tests, low) in
     let f : nat_lt (0x70 + w / 8) 0x80 ≡ true = grind (arith, nat_tests, high) in
-    and_both (nat_le 0x70 (0x70 + w / 8)) (nat_lt (0x70 + w / 8) 0x80) e f
+    and_from (nat_le 0x70 (0x70 + w / 8)) (nat_lt (0x70 + w / 8) 0x80) e f
 
 every_all : (f : Paced → Bool) (ps : List Paced) → Every (λ p. f p ≡ true) ps → list_all f ps ≡ true
 every_all f [] h = refl
-every_all f (p ∷ ps) h = and_both (f p) (list_all f ps) h.0 (every_all f ps h.1)
+every_all f (p ∷ ps) h = and_from (f p) (list_all f ps) h.0 (every_all f ps h.1)
 
 any_at : (f : PortBit → Bool) (pins : List PortBit) (k : ℕ) → k < length pins → f (pin_at pins k) ≡ true → list_any f pins ≡ true
 any_at f [] k h e = absurd (omega (arith, h))
-any_at f (p ∷ pins) zero h e = or_first (f p) (list_any f pins) e
-any_at f (p ∷ pins) (suc k) h e = or_second (f p) (list_any f pins) (any_at f pins k (omega (arith, h)) e)
+any_at f (p ∷ pins) zero h e = or_left (f p) (list_any f pins) e
+any_at f (p ∷ pins) (suc k) h e = or_right (f p) (list_any f pins) (any_at f pins k (omega (arith, h)) e)
 
 same_pin : (p : PortBit) → (p.port == p.port) && (p.bit == p.bit) ≡ true
-same_pin p = and_both (p.port == p.port) (p.bit == p.bit) (grind (arith, nat_tests)) (grind (arith, nat_tests))
+same_pin p = and_from (p.port == p.port) (p.bit == p.bit) (grind (arith, nat_tests)) (grind (arith, nat_tests))
 
 wired_at : (target : Target) (w : ℕ) (p : CellBit) (x : WirePlace target w) → wire_of target w ≡ Some p → x.place ≡ p
 wired_at target w p x e = let f : Some x.place ≡ Some p = sym x.is ∙ e in cc
@@ -97,21 +86,21 @@ module _ (o : Layout) (c : IsChip o.plan.target) (room : ram_need o.plan.sizes �
   Admits p = admits (outfit_of o) p.prim ≡ true
 
   listed_cell : (a : ℕ) → Listed o c room a → is_cell (outfit_of o) a ≡ true
-  listed_cell a l = or_second (is_scratch o.plan.target a) (list_any (holds a) (ram_ranges o.plan.target)) (inside o.plan.target l.index (Some a) (sym l.is))
+  listed_cell a l = or_right (is_scratch o.plan.target a) (list_any (holds a) (ram_ranges o.plan.target)) (inside o.plan.target l.index (Some a) (sym l.is))
 
   word : (v : ℕ) → v < o.plan.sizes.variables → is_word (outfit_of o) (word_cell o v) ≡ true
-  word v h = and_both _ _ (listed_cell (word_cell o v) (low_listed o c room v h)) (listed_cell (word_cell o v + 1) (high_listed o c room v h))
+  word v h = and_from _ _ (listed_cell (word_cell o v) (low_listed o c room v h)) (listed_cell (word_cell o v + 1) (high_listed o c room v h))
 
   bit : (k : ℕ) → k < o.plan.sizes.kept_bits + WIRES → is_cell (outfit_of o) (bit_cell o k).address && nat_lt (bit_cell o k).bit 8 ≡ true
   bit k h =
       let low : nat_lt (bit_cell o k).bit 8 ≡ true = let lt = ((places_apart o c room).bit k h).1 in grind (arith, nat_tests, lt) in
-      and_both _ _ (by (bit_view o c room k h)) low
+      and_from _ _ (by (bit_view o c room k h)) low
     where
       by : BitView o c room k → is_cell (outfit_of o) (bit_cell o k).address ≡ true
       by (kept lt b e) = listed_cell (bit_cell o k).address (kept_listed o c room k lt)
       by (wired past w e) =
           ap (λ p. is_cell (outfit_of o) p.address) e
-          ∙ or_first (is_scratch o.plan.target w.place.address) _ (is_wire_scratch o.plan.target c (k - o.plan.sizes.kept_bits) (omega (arith, past, h)) w)
+          ∙ or_left (is_scratch o.plan.target w.place.address) _ (is_wire_scratch o.plan.target c (k - o.plan.sizes.kept_bits) (omega (arith, past, h)) w)
 
   dest : (b : written.BitDest) → IsDest (room_of o) b → writes_bit (outfit_of o) (dest_of o b) ≡ true
   dest (opdest.B k) h = bit k h
@@ -124,10 +113,10 @@ module _ (o : Layout) (c : IsChip o.plan.target) (room : ram_need o.plan.sizes �
 
   two : (u v : ℕ) → u < o.plan.sizes.variables → v < o.plan.sizes.variables → is_word (outfit_of o) (word_cell o u) && is_word (outfit_of o) (word_cell o v) ≡
       true
-  two u v h g = and_both _ _ (word u h) (word v g)
+  two u v h g = and_from _ _ (word u h) (word v g)
 
   one : (u : ℕ) → u < o.plan.sizes.variables → is_word (outfit_of o) (word_cell o u) && true ≡ true
-  one u h = and_both _ _ (word u h) refl
+  one u h = and_from _ _ (word u h) refl
 
   either_list : (b : Bool) (ps qs : List Paced) → Every Admits ps → Every Admits qs → Every Admits (if b then ps else qs)
   either_list true ps qs h g = h
@@ -146,22 +135,22 @@ module _ (o : Layout) (c : IsChip o.plan.target) (room : ram_need o.plan.sizes �
   equal (N n) (N m) l h g = either_list (int_eq n m) _ _ tt (refl, tt)
 
   sums : (v : ℕ) (w u : NumSource) → IsComputed (room_of o) v w u → Every Admits (sum o v w u ∷ [])
-  sums v (V a) (V b) h = (and_both _ _ (word v h.0) (two a b h.1 h.2), tt)
-  sums v (V a) (N m) h = (and_both _ _ (word v h.0) (one a h.1), tt)
-  sums v (N n) (V b) h = (and_both _ _ (word v h.0) (one b h.2), tt)
+  sums v (V a) (V b) h = (and_from _ _ (word v h.0) (two a b h.1 h.2), tt)
+  sums v (V a) (N m) h = (and_from _ _ (word v h.0) (one a h.1), tt)
+  sums v (N n) (V b) h = (and_from _ _ (word v h.0) (one b h.2), tt)
   sums v (N n) (N m) h = (one v h.0, tt)
 
   differences : (v : ℕ) (w u : NumSource) → IsComputed (room_of o) v w u → Every Admits (difference o v w u ∷ [])
-  differences v (V a) (V b) h = (and_both _ _ (word v h.0) (two a b h.1 h.2), tt)
-  differences v (V a) (N m) h = (and_both _ _ (word v h.0) (one a h.1), tt)
-  differences v (N n) (V b) h = (and_both _ _ (word v h.0) (word b h.2), tt)
+  differences v (V a) (V b) h = (and_from _ _ (word v h.0) (two a b h.1 h.2), tt)
+  differences v (V a) (N m) h = (and_from _ _ (word v h.0) (one a h.1), tt)
+  differences v (N n) (V b) h = (and_from _ _ (word v h.0) (word b h.2), tt)
   differences v (N n) (N m) h = (one v h.0, tt)
 
   list : (op : IntOp) (l top : ℕ) → is_built op ≡ true → IsInRange (room_of o) op → Every Admits (list_of o op l top)
   list (Set b) l top built h = (dest b h, tt)
   list (Clr b) l top built h = (dest b h, tt)
-  list (Cpy b f) l top built h = (and_both _ _ (dest b h.0) (source f h.1), tt)
-  list (Not b f) l top built h = (and_both _ _ (dest b h.0) (source f h.1), tt)
+  list (Cpy b f) l top built h = (and_from _ _ (dest b h.0) (source f h.1), tt)
+  list (Not b f) l top built h = (and_from _ _ (dest b h.0) (source f h.1), tt)
   list (Ifs f) l top built h = (source f h, tt)
   list (Ifc f) l top built h = (source f h, tt)
   list (Iflt w u) l top built h = less w u l h.0 h.1
@@ -191,7 +180,7 @@ module _ (o : Layout) (c : IsChip o.plan.target) (room : ram_need o.plan.sizes �
       joined_by (guard_of (op ∷ ops)) (λ g. put_where o g ∷ lists_of o 2 ops (suc k) labels)
       (list_of o op (label_of k) (top_of labels) ++ lists_of o zero ops (suc k) (labels_behind (shape_of op) k labels))
       (λ g e. let places = guard_ranges o (op ∷ ops) g e range in (
-        and_both _ _ (source g.from places.0) (dest g.to places.1),
+        and_from _ _ (source g.from places.0) (dest g.to places.1),
         lists 2 ops (suc k) labels (All-tail (λ x. is_built x ≡ true) op ops built)
             (All-tail (IsInRange (room_of o)) op ops range),
       ))

@@ -1,5 +1,6 @@
 -- What the list of each operation does where its branch runs.
 use Rattle.std.proofs.Common.{◌≡◌, ℕ, suc, ◌+◌, ◌%◌, ◌<◌, inl, inr, Bool, true, false, not, List, [], ◌∷◌, ◌++◌, drop, get_or, ℤ, pos, refl, sym, ap, subst, ◌∙◌, arith}
+use Rattle.std.proofs.lemmas.Bool.{and_parts}
 use Rattle.std.specs.Prelude.{◌⊎◌, ◌&&◌, nat_lt, int_lt, ◌+ℤ◌, ◌-ℤ◌, neg_ℤ, if◌then◌else◌, None}
 use Rattle.std.specs.Ordering.{int_eq}
 use Rattle.ld_base.specs.Wrap.{wrap}
@@ -57,14 +58,6 @@ HasOpen Closes labels ifs = ⊥
 -- the label of an open if that has so many open ifs inside
 abbrev pub label_at : List ℕ → ℕ → ℕ
 label_at labels depth = get_or labels depth 0
-
-and_first : (a b : Bool) → a && b ≡ true → a ≡ true
-and_first true b e = refl
-and_first false b e = absurd (cc)
-
-and_second : (a b : Bool) → a && b ≡ true → b ≡ true
-and_second true b e = e
-and_second false b e = absurd (cc)
 
 one_word : IsWordOf (pos 1) 1
 one_word = record { number = refl; word = refl }
@@ -337,7 +330,7 @@ module _ (code : List Paced) (o : Layout) (r : Reading) (apart : Apart o) (pins 
           (m _ (record {
             closed = closed;
             good = any_flag o r apart pins s.store t None good;
-            stands_at = inr (record { depth = 0; off = (ap not (and_second (all_run bs) b run), and_first (all_run bs) b run); there = refl });
+            stands_at = inr (record { depth = 0; off = (ap not (and_parts (all_run bs) b run).1, (and_parts (all_run bs) b run).0); there = refl });
           }))
   step_of Fi ifs built h hold opens run e n = close ifs labels opens run e n
     where
@@ -349,7 +342,7 @@ module _ (code : List Paced) (o : Layout) (r : Reading) (apart : Apart o) (pins 
       close (b ∷ bs) [] op run f m = absurd op
       close (b ∷ bs) (l ∷ ls) op run f m =
           label_go code Goal last s at rest is_at l f
-          (m _ (record { closed = closed; good = any_flag o r apart pins s.store t None good; stands_at = inl (and_first (all_run bs) b run, ap suc is_at) }))
+          (m _ (record { closed = closed; good = any_flag o r apart pins s.store t None good; stands_at = inl ((and_parts (all_run bs) b run).0, ap suc is_at) }))
   step_of (Lit v m) ifs built h hold opens run e n =
       word_step code o r apart pins Goal last k at rest labels ifs t s closed good run is_at (words.Move (word_cell o v) (number m)) v m _ h
       (number_read s.store m hold) refl e n

@@ -1,11 +1,11 @@
 -- Operations that nest do nothing in a branch that does not run.
 use Rattle.std.proofs.Common.{◌≡◌, ℕ, Bool, true, false, not, List, [], ◌∷◌, ◌++◌, length, refl, arith}
+use Rattle.std.proofs.lemmas.Bool.{and_parts}
 use Rattle.ladder_meaning.specs.declared.reading.Reading.{Reading}
 use Rattle.int_code.specs.Meaning.{Moment, all_run, holds, step, run}
 use Rattle.int_code.specs.Shapes.{shape_of}
 use Rattle.int_code.specs.Store.{Store}
 use Rattle.int_code.specs.WellFormed.{nests_by, nests}
-use Rattle.int_code.proofs.NestLemmas.{and_last}
 use Rattle.int_code.specs.declared.op.IntOp.{IntOp}
 use Rattle.int_code.specs.declared.op.Shape.{Shape}
 use Rattle.int_code.specs.declared.op.Shape.TheVariants.{Opens, Turns, Closes, Plain}
@@ -25,7 +25,7 @@ module _ (r : Reading) (outer : List Bool) (t : Store) (n : ℕ) (off : all_run 
   sleeps_by : (op : IntOp) (ops : List IntOp) → Sleeps ops → (shape : Shape) → shape_of op ≡ shape → (es inner : List Bool) → length es ≡ length inner
       → nests_by shape (nests ops) es ≡ true → run r ops (step r op (inside inner)) ≡ inside []
   sleeps_by op ops rest Opens e es inner l h = rw (e, still_off inner) (rest (false ∷ es) (holds r op t ∷ inner) (omega (arith, l)) h)
-  sleeps_by op ops rest Turns e (d ∷ es) (b ∷ bs) l h = rw (e, still_off bs) (rest (true ∷ es) (not b ∷ bs) (omega (arith, l)) (and_last (not d) _ h))
+  sleeps_by op ops rest Turns e (d ∷ es) (b ∷ bs) l h = rw (e, still_off bs) (rest (true ∷ es) (not b ∷ bs) (omega (arith, l)) (and_parts (not d) _ h).1)
   sleeps_by op ops rest Turns e (d ∷ es) [] l h = absurd (omega (arith, l))
   sleeps_by op ops rest Turns e [] inner l h = absurd cc
   sleeps_by op ops rest Closes e (d ∷ es) (b ∷ bs) l h = rw (e, still_off bs) (rest es bs (omega (arith, l)) h)

@@ -1,5 +1,6 @@
 -- One operation of a list that nests.
 use Rattle.std.proofs.Common.{◌≡◌, ℕ, suc, ◌+◌, ◌<◌, Bool, true, false, not, ◌&&◌, List, [], ◌∷◌, length, get_or, drop, sym, ap, ◌∙◌, arith, add-one, drop-cons}
+use Rattle.std.proofs.lemmas.Bool.{and_parts}
 use Rattle.int_code.specs.declared.op.IntOp.{IntOp}
 use Rattle.int_code.specs.declared.op.Shape.{Shape}
 use Rattle.int_code.specs.declared.op.Shape.TheVariants.{Opens, Turns, Closes, Plain}
@@ -14,14 +15,10 @@ pub record Nested (shape : Shape) (runs : Bool) (ops : List IntOp) (ifs : List B
   pub rest : nests ops flags ≡ true
   pub is_open : IsOpenForShape shape ifs
 
-pub and_last : (a b : Bool) → (a && b) ≡ true → b ≡ true
-and_last true b h = h
-and_last false b h = cc
-
 pub nests_step : (shape : Shape) (runs : Bool) (ops : List IntOp) (ifs es : List Bool) → nests_by shape (nests ops) es ≡ true → length es ≡ length ifs
     → Nested shape runs ops ifs
 nests_step Opens runs ops ifs es h l = record { flags = false ∷ es; count = omega (arith, l); rest = h; is_open = tt }
-nests_step Turns runs ops (b ∷ bs) (e ∷ es) h l = record { flags = true ∷ es; count = omega (arith, l); rest = and_last (not e) _ h; is_open = tt }
+nests_step Turns runs ops (b ∷ bs) (e ∷ es) h l = record { flags = true ∷ es; count = omega (arith, l); rest = (and_parts (not e) _ h).1; is_open = tt }
 nests_step Turns runs ops [] (e ∷ es) h l = absurd (omega (arith, l))
 nests_step Turns runs ops ifs [] h l = absurd cc
 nests_step Closes runs ops (b ∷ bs) (e ∷ es) h l = record { flags = es; count = omega (arith, l); rest = h; is_open = tt }

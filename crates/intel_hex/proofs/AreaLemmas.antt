@@ -1,19 +1,12 @@
 -- Addresses that pass a test, and those in areas.
 use Rattle.std.proofs.Common.{◌≡◌, ℕ, zero, suc, ◌+◌, ◌-◌, ◌<◌, Bool, true, false, not, ◌||◌, None, replicate, refl, arith}
+use Rattle.std.proofs.lemmas.Bool.{or_parts}
 use Rattle.std.proofs.lemmas.Bool.Decides.{nat_tests}
 use Rattle.std.specs.List.{range_with_len, list_any}
 use Rattle.chip_tables.specs.declared.target.Target.{Target}
 use Rattle.chip_tables.specs.declared.target.Target.TheVariants.{F628, F877, Mega16, Interp, AnsiC}
 use Rattle.intel_hex.specs.Areas.{is_in_area}
 use Rattle.intel_hex.specs.Loaded.{held}
-
-first_of_any : (a b : Bool) → (a || b) ≡ false → a ≡ false
-first_of_any true b h = h
-first_of_any false b h = refl
-
-rest_of_any : (a b : Bool) → (a || b) ≡ false → b ≡ false
-rest_of_any true b h = absurd cc
-rest_of_any false b h = h
 
 -- the first address does not pass
 pub any_step : (p : ℕ → Bool) (a end : ℕ) → a < end → p a ≡ false
@@ -27,10 +20,10 @@ pub none_passes : (p : ℕ → Bool) (first n : ℕ) → list_any p (range_with_
 none_passes p first zero none k h = absurd (omega arith)
 none_passes p first (suc n) none zero h =
     let here : first + 0 ≡ first = omega arith in
-    rw here (first_of_any (p first) _ none)
+    rw here (or_parts (p first) _ none).0
 none_passes p first (suc n) none (suc k) h =
     let next : first + suc k ≡ first + 1 + k = omega arith in
-    rw next (none_passes p (first + 1) n (rest_of_any (p first) _ none) k (omega arith))
+    rw next (none_passes p (first + 1) n (or_parts (p first) _ none).1 k (omega arith))
 
 small : (t : Target) (a : ℕ) → not (is_in_area t a) ≡ false → a < 17408
 small F628 a h = grind (arith, nat_tests)

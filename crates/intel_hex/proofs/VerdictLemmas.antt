@@ -3,6 +3,7 @@ use Rattle.std.proofs.Common.{◌≡◌, ℕ, suc, ◌+◌, ◌<◌, ◌≤◌, 
 use Rattle.std.proofs.lemmas.Bool.Decides.{nat_tests}
 use Rattle.chip_tables.specs.declared.target.Target.{Target}
 use Rattle.texts.specs.Lines.{lines, onto}
+use Rattle.texts.specs.declared.limits.TheConstants.{FILE_BYTES}
 use Rattle.intel_hex.specs.declared.image.Image.{Image}
 use Rattle.intel_hex.specs.declared.fault.HexCause.{HexCause}
 use Rattle.intel_hex.specs.declared.fault.HexCause.TheVariants.{BadRecord, NoEnd}
@@ -50,13 +51,13 @@ no_lines (x ∷ xs) = by (x == 10) (lines xs) ∙ sym (is_some_length (length xs
     by false [] = refl
     by false (l ∷ ls) = is_some_length (length ls)
 
-pub is_last : (size rest : ℕ) → 8388608 < size → (rest == 0) ≡ true → (nat_lt 8388608 size && (rest == 0)) ≡ true
+pub is_last : (size rest : ℕ) → FILE_BYTES < size → (rest == 0) ≡ true → (nat_lt FILE_BYTES size && (rest == 0)) ≡ true
 is_last size rest long none = grind (arith, nat_tests)
 
-pub is_not_long : (size rest : ℕ) → size ≤ 8388608 → (nat_lt 8388608 size && (rest == 0)) ≡ false
+pub is_not_long : (size rest : ℕ) → size ≤ FILE_BYTES → (nat_lt FILE_BYTES size && (rest == 0)) ≡ false
 is_not_long size rest short = grind (arith, nat_tests)
 
-pub is_not_last : (size rest : ℕ) → (rest == 0) ≡ false → (nat_lt 8388608 size && (rest == 0)) ≡ false
+pub is_not_last : (size rest : ℕ) → (rest == 0) ≡ false → (nat_lt FILE_BYTES size && (rest == 0)) ≡ false
 is_not_last size rest some = grind (arith, nat_tests)
 
 -- what a line says that is not the last of a text that is too long

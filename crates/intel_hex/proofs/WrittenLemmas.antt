@@ -207,7 +207,7 @@ config_length true (Some w) = let line = line_length 0 0x400e (w % 256 ∷ w / 2
 config_length true None = omega arith
 config_length false config = omega arith
 
-text_length : (image : Image) → IsImage image → length (hex_text image) ≤ 8388608
+text_length : (image : Image) → IsImage image → length (hex_text image) ≤ FILE_BYTES
 text_length image fits =
     let pic = is_pic image.target in
     let room = fits.room in

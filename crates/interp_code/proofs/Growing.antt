@@ -1,5 +1,6 @@
 -- What was read is what the lines say.
 use Rattle.std.proofs.Common.{◌≡◌, ℕ, suc, ◌+◌, ◌≤◌, Bool, true, false, not, ◌&&◌, if◌then◌else◌, nat_le, nat_lt, nat_eq, List, [], ◌∷◌, ◌++◌, length, map, Option, Some, None, ℤ, refl, sym, ap, ◌∙◌, append_assoc, arith, All, length-append}
+use Rattle.std.proofs.lemmas.Bool.{and_parts}
 use Rattle.std.proofs.lemmas.Bool.Decides.{nat_tests}
 use Rattle.std.proofs.lemmas.List.{map-append, append-nil}
 use Rattle.std.proofs.lemmas.List.Elements.{All-nil, All-push}
@@ -23,7 +24,6 @@ use Rattle.interp_code.specs.Program.{differ_from, all_differ, are_in}
 use Rattle.interp_code.specs.Refused.{operations_of}
 use Rattle.texts.specs.Keys.{with_key}
 use Rattle.interp_code.specs.Draft.{Draft, start, sizes, is_in_range, ifs_behind, is_none, step_kept, step_at}
-use Rattle.interp_code.proofs.BoolLemmas.{and_left, and_right}
 use Rattle.interp_code.proofs.SaidLines.{IsInForm}
 use Rattle.interp_code.proofs.RangeTests.{range_decides}
 use Rattle.interp_code.proofs.TextLemmas.{variables_push}
@@ -145,8 +145,8 @@ differ_more : (seen ns : List (List ℕ)) (n : List ℕ) → differ_from seen ns
     → differ_from seen (ns ++ n ∷ []) ≡ true
 differ_more seen [] n h new = let plain : list_any (bytes_eq n) seen ≡ false = ap (list_any (bytes_eq n)) (sym (append-nil seen)) ∙ new in rw plain refl
 differ_more seen (m ∷ ns) n h new =
-    let first = and_left (not (list_any (bytes_eq m) seen)) (differ_from (seen ++ m ∷ []) ns) h in
-    let others = and_right (not (list_any (bytes_eq m) seen)) (differ_from (seen ++ m ∷ []) ns) h in
+    let first = (and_parts (not (list_any (bytes_eq m) seen)) (differ_from (seen ++ m ∷ []) ns) h).0 in
+    let others = (and_parts (not (list_any (bytes_eq m) seen)) (differ_from (seen ++ m ∷ []) ns) h).1 in
     rw first (differ_more (seen ++ m ∷ []) ns n others (ap (list_any (bytes_eq n)) (append_assoc seen (m ∷ []) ns) ∙ new))
 
 differ_push : (ns : List (List ℕ)) (n : List ℕ) → all_differ ns ≡ true → list_any (bytes_eq n) ns ≡ false → all_differ (ns ++ n ∷ []) ≡ true
@@ -231,13 +231,13 @@ input_grown d n none new g = record {
 }
   where
     no_outputs : d.names.outputs ≡ []
-    no_outputs = none_is d.names.outputs (and_left (is_none d.names.outputs) _ none)
+    no_outputs = none_is d.names.outputs (and_parts (is_none d.names.outputs) _ none).0
 
     no_analogs : d.names.analog ≡ []
-    no_analogs = none_is d.names.analog (and_left (is_none d.names.analog) (is_none d.names.variables) (and_right (is_none d.names.outputs) _ none))
+    no_analogs = none_is d.names.analog (and_parts (is_none d.names.analog) (is_none d.names.variables) (and_parts (is_none d.names.outputs) _ none).1).0
 
     no_vars : d.names.variables ≡ []
-    no_vars = none_is d.names.variables (and_right (is_none d.names.analog) (is_none d.names.variables) (and_right (is_none d.names.outputs) _ none))
+    no_vars = none_is d.names.variables (and_parts (is_none d.names.analog) (is_none d.names.variables) (and_parts (is_none d.names.outputs) _ none).1).1
 
 output_grown : (d : Draft) (n : List ℕ) → (is_none d.names.analog && is_none d.names.variables) ≡ true → list_any (bytes_eq n) d.names.outputs ≡ false
     → Good (record d { stage = stage.Named })
@@ -267,10 +267,10 @@ output_grown d n none new g = record {
 }
   where
     no_analogs : d.names.analog ≡ []
-    no_analogs = none_is d.names.analog (and_left (is_none d.names.analog) (is_none d.names.variables) none)
+    no_analogs = none_is d.names.analog (and_parts (is_none d.names.analog) (is_none d.names.variables) none).0
 
     no_vars : d.names.variables ≡ []
-    no_vars = none_is d.names.variables (and_right (is_none d.names.analog) (is_none d.names.variables) none)
+    no_vars = none_is d.names.variables (and_parts (is_none d.names.analog) (is_none d.names.variables) none).1
 
 analog_grown : (d : Draft) (n : List ℕ) → is_none d.names.variables ≡ true → list_any (bytes_eq n) d.names.analog ≡ false → is_name_within 66 n ≡ true
     → Good (record d { stage = stage.Named })
@@ -355,10 +355,10 @@ relay_grown d n room new g = record {
 }
   where
     none : d.names.persistent ≡ []
-    none = none_is d.names.persistent (and_left (is_none d.names.persistent) _ room)
+    none = none_is d.names.persistent (and_parts (is_none d.names.persistent) _ room).0
 
     few : nat_lt (length d.names.relays) MOST_BITS ≡ true
-    few = and_right (is_none d.names.persistent) _ room
+    few = (and_parts (is_none d.names.persistent) _ room).1
 
 persistent_grown : (d : Draft) (n : List ℕ) → (list_any (bytes_eq n) d.names.variables && nat_lt (length d.names.persistent) MOST_PERSISTENT) ≡ true
     → list_any (bytes_eq n) d.names.persistent ≡ false → Good (record d { stage = stage.Kept })
@@ -388,10 +388,10 @@ persistent_grown d n room new g = record {
 }
   where
     is_variable : list_any (bytes_eq n) d.names.variables ≡ true
-    is_variable = and_left (list_any (bytes_eq n) d.names.variables) _ room
+    is_variable = (and_parts (list_any (bytes_eq n) d.names.variables) _ room).0
 
     few : nat_lt (length d.names.persistent) MOST_PERSISTENT ≡ true
-    few = and_right (list_any (bytes_eq n) d.names.variables) _ room
+    few = (and_parts (list_any (bytes_eq n) d.names.variables) _ room).1
 
 bits_grown : (d : Draft) (n : ℕ) → (nat_le (length d.names.relays) n && nat_le n MOST_BITS) ≡ true → Good (record d { stage = stage.Kept })
     → Grown (record d { stage = stage.Kept }) (BitCount n) (record d { stage = stage.Sized; bits = n })
@@ -406,10 +406,10 @@ bits_grown d n fits g = record {
 }
   where
     enough : nat_le (length d.names.relays) n ≡ true
-    enough = and_left (nat_le (length d.names.relays) n) (nat_le n MOST_BITS) fits
+    enough = (and_parts (nat_le (length d.names.relays) n) (nat_le n MOST_BITS) fits).0
 
     few : nat_le n MOST_BITS ≡ true
-    few = and_right (nat_le (length d.names.relays) n) (nat_le n MOST_BITS) fits
+    few = (and_parts (nat_le (length d.names.relays) n) (nat_le n MOST_BITS) fits).1
 
 -- what was sized stays so
 still_sized : (s t : Stage) (d : Draft) (ops : List IntOp) (es : List Bool) → IsSized (record d { stage = s })

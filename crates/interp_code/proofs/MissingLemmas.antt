@@ -1,5 +1,6 @@
 -- The variables that a text still needs: those of analog names.
 use Rattle.std.proofs.Common.{◌≡◌, ℕ, Bool, true, false, ◌||◌, if◌then◌else◌, List, [], ◌∷◌, ◌++◌, length, ℤ, pos, refl, ◌∙◌, subst, append_assoc, arith, All}
+use Rattle.std.proofs.lemmas.Bool.{and_parts}
 use Rattle.std.proofs.lemmas.List.Elements.{All-nil, All-cons}
 use Rattle.std.proofs.lemmas.List.Folds.{list_any-append}
 use Rattle.std.proofs.lemmas.Slice.Eq.{bytes_eq-Decides}
@@ -7,7 +8,6 @@ use Rattle.std.specs.List.{list_any, list_all}
 use Rattle.std.specs.Str.{bytes_eq}
 use Rattle.interp_code.specs.Program.{differ_from, are_in}
 use Rattle.int_code.specs.Literals.{IsNumber}
-use Rattle.interp_code.proofs.BoolLemmas.{and_left, and_right}
 
 -- the names that are no variables yet, each once
 abbrev pub missing : List (List ℕ) → List (List ℕ) → List (List ℕ)
@@ -39,13 +39,13 @@ missing_differ vs (n ∷ ns) = by (list_any (bytes_eq n) vs) refl (missing_diffe
 pub missing_pass : (ok : List ℕ → Bool) (vs ns : List (List ℕ)) → list_all ok ns ≡ true → list_all ok (missing vs ns) ≡ true
 missing_pass ok vs [] h = refl
 missing_pass ok vs (n ∷ ns) h =
-    let others = and_right (ok n) (list_all ok ns) h in
+    let others = (and_parts (ok n) (list_all ok ns) h).1 in
     by (list_any (bytes_eq n) vs) (missing_pass ok vs ns others) (missing_pass ok (vs ++ n ∷ []) ns others)
   where
     by : (b : Bool) → list_all ok (missing vs ns) ≡ true → list_all ok (missing (vs ++ n ∷ []) ns) ≡ true
         → list_all ok (if b then missing vs ns else n ∷ missing (vs ++ n ∷ []) ns) ≡ true
     by true old new = old
-    by false old new = rw (and_left (ok n) (list_all ok ns) h) new
+    by false old new = rw (and_parts (ok n) (list_all ok ns) h).0 new
 
 still_any : (p : List ℕ → Bool) (xs ys : List (List ℕ)) → list_any p xs ≡ true → list_any p (xs ++ ys) ≡ true
 still_any p xs ys h = list_any-append p xs ys ∙ rw h refl

@@ -1,7 +1,7 @@
 -- The lines of a program are read.
 use Rattle.std.proofs.Common.{◌≡◌, ℕ, ◌+◌, ◌<◌, ◌≤◌, Bool, true, false, not, nat_le, nat_lt, List, [], ◌∷◌, ◌++◌, length, map, Option, Some, None, ℤ, refl, sym, ap, ◌∙◌, subst, append_assoc, arith, All, length-append}
 use Rattle.std.proofs.lemmas.Bool.Decides.{nat_tests}
-use Rattle.std.proofs.lemmas.Bool.{false≢true}
+use Rattle.std.proofs.lemmas.Bool.{false≢true, and_parts}
 use Rattle.std.proofs.lemmas.List.{append-nil}
 use Rattle.std.proofs.lemmas.List.Elements.{All-head, All-tail}
 use Rattle.std.specs.Option.{option_and_then}
@@ -22,7 +22,7 @@ use Rattle.interp_code.specs.Text.{variables, spelled}
 use Rattle.int_code.specs.declared.limits.TheConstants.{MOST_BITS, MOST_PERSISTENT}
 use Rattle.interp_code.specs.Program.{differ_from, are_in, IsSound, Says}
 use Rattle.interp_code.specs.Draft.{Draft, start, sizes_with, ifs_behind, step, step_line, read}
-use Rattle.interp_code.proofs.BoolLemmas.{and_left, and_right, not_true}
+use Rattle.interp_code.proofs.BoolLemmas.{not_true}
 use Rattle.interp_code.proofs.RangeTests.{range_decides}
 
 -- lines as they were said
@@ -88,11 +88,11 @@ run_list : (ok : List ℕ → Bool) (most : ℕ) (make : List (List ℕ) → Dra
     → run (make seen) (map f ns ++ rest) ≡ run (make (seen ++ ns)) rest
 run_list ok most make f each seen [] rest few good h = ap (λ ns. run (make ns) rest) (sym (append-nil seen))
 run_list ok most make f each seen (n ∷ ns) rest few good h =
-    let new = not_true (list_any (bytes_eq n) seen) (and_left (not (list_any (bytes_eq n) seen)) (differ_from (seen ++ n ∷ []) ns) h) in
-    let others = and_right (not (list_any (bytes_eq n) seen)) (differ_from (seen ++ n ∷ []) ns) h in
+    let new = not_true (list_any (bytes_eq n) seen) (and_parts (not (list_any (bytes_eq n) seen)) (differ_from (seen ++ n ∷ []) ns) h).0 in
+    let others = (and_parts (not (list_any (bytes_eq n) seen)) (differ_from (seen ++ n ∷ []) ns) h).1 in
     let long = length-append seen (n ∷ []) in
-    rw (each seen n (omega arith) (and_left (ok n) (list_all ok ns) good) new)
-    (run_list ok most make f each (seen ++ n ∷ []) ns rest (omega (arith, long)) (and_right (ok n) (list_all ok ns) good) others
+    rw (each seen n (omega arith) (and_parts (ok n) (list_all ok ns) good).0 new)
+    (run_list ok most make f each (seen ++ n ∷ []) ns rest (omega (arith, long)) (and_parts (ok n) (list_all ok ns) good).1 others
     ∙ ap (λ xs. run (make xs) rest) (append_assoc seen (n ∷ []) ns))
 
 any_name : (ns : List (List ℕ)) → list_all (λ n. true) ns ≡ true
@@ -114,8 +114,8 @@ run_variables d seen [] values [] rest same h = rw (append-nil, append-nil) refl
 run_variables d seen [] values (v ∷ vs) rest same h = absurd (omega arith)
 run_variables d seen (n ∷ ns) values [] rest same h = absurd (omega arith)
 run_variables d seen (n ∷ ns) values (v ∷ vs) rest same h =
-    let new = not_true (list_any (bytes_eq n) seen) (and_left (not (list_any (bytes_eq n) seen)) (differ_from (seen ++ n ∷ []) ns) h) in
-    let others = and_right (not (list_any (bytes_eq n) seen)) (differ_from (seen ++ n ∷ []) ns) h in
+    let new = not_true (list_any (bytes_eq n) seen) (and_parts (not (list_any (bytes_eq n) seen)) (differ_from (seen ++ n ∷ []) ns) h).0 in
+    let others = (and_parts (not (list_any (bytes_eq n) seen)) (differ_from (seen ++ n ∷ []) ns) h).1 in
     rw new (run_variables d (seen ++ n ∷ []) ns (values ++ v ∷ []) vs rest (omega arith) others
     ∙ ap (λ xs. run (with_variables d xs ((values ++ v ∷ []) ++ vs)) rest) (append_assoc seen (n ∷ []) ns)
     ∙ ap (λ ws. run (with_variables d (seen ++ (n ∷ ns)) ws) rest) (append_assoc values (v ∷ []) vs))

@@ -1,7 +1,7 @@
 -- A line that is written reads back.
 use Rattle.std.proofs.Common.{◌≡◌, ℕ, ◌<◌, ◌≤◌, Bool, true, not, ◌==◌, false, nat_le, List, [], ◌∷◌, ◌++◌, length, get_or, map, Some, ℤ, refl, ap, ◌∙◌, arith, All, codes, append_assoc}
 use Rattle.std.proofs.lemmas.Bool.Decides.{nat_tests}
-use Rattle.std.proofs.lemmas.Bool.{leb-true}
+use Rattle.std.proofs.lemmas.Bool.{leb-true, and_parts}
 use Rattle.std.proofs.lemmas.List.{append-nil}
 use Rattle.std.proofs.lemmas.List.Sums.{AllPass-from_list_all}
 use Rattle.std.proofs.lemmas.List.Folds.{list_all-append}
@@ -20,7 +20,6 @@ use Rattle.interp_code.specs.Line.{Line, Magic, Cycle, Input, Output, Analog, Va
 use Rattle.int_code.specs.Literals.{most_hertz, IsNumber, HoldsNumber, HoldsNumbers}
 use Rattle.interp_code.specs.Text.{line_text}
 use Rattle.interp_code.proofs.SpelledWords.{lacks, IsClean, IsSmall, piece_cut, piece_end, name_spells, number_spells, index_spells, integer_spells, dest_spells, source_spells, variable_spells, source_number_spells}
-use Rattle.interp_code.proofs.BoolLemmas.{and_left, and_right}
 use Rattle.interp_code.proofs.WordLemmas.{words_say}
 
 -- a line that is written says what it should, and is one line
@@ -71,8 +70,8 @@ high xs = list_all (λ b. nat_le 45 b) xs
 literal : (word : List ℕ) → high word ≡ true → IsClean word
 literal [] h = λ s low. refl
 literal (c ∷ cs) h =
-    λ s low. let first = and_left (nat_le 45 c) (high cs) h in let other : (c == s) ≡ false = grind (arith, nat_tests) in rw
-    (other, literal cs (and_right (nat_le 45 c) (high cs) h) s low) refl
+    λ s low. let first = (and_parts (nat_le 45 c) (high cs) h).0 in let other : (c == s) ≡ false = grind (arith, nat_tests) in rw
+    (other, literal cs (and_parts (nat_le 45 c) (high cs) h).1 s low) refl
 
 pub magic_reads : Reads Magic
 magic_reads = record { of = refl; clean = refl }

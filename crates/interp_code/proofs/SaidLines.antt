@@ -1,5 +1,6 @@
 -- What a line says is in form: its names are names, its cycle is one, and the numbers of its operation are in their ranges.
 use Rattle.std.proofs.Common.{◌≡◌, ℕ, ◌≤◌, Bool, true, false, ◌&&◌, ◌==◌, if◌then◌else◌, nat_le, zero, suc, List, [], ◌∷◌, length, Option, None, Some, ℤ, pos, neg_ℤ, refl, codes, subst, arith, All}
+use Rattle.std.proofs.lemmas.Bool.{and_parts}
 use Rattle.std.proofs.lemmas.Bool.Decides.{nat_tests}
 use Rattle.std.proofs.lemmas.Int.{ints}
 use Rattle.std.proofs.lemmas.List.Elements.{All-nil, All-cons}
@@ -16,7 +17,6 @@ use Rattle.int_code.specs.declared.op.IntOp.TheVariants.{Set, Clr, Cpy, Not, Ifs
 use Rattle.int_code.specs.WellFormed.{most_values}
 use Rattle.int_code.specs.Literals.{most_hertz, IsNumber, HoldsNumber, HoldsNumbers}
 use Rattle.interp_code.specs.Line.{Line, Magic, Cycle, Input, Output, Analog, Variable, Relay, Persistent, BitCount, Code, Operation, End, most_count, name, index, number_to, integer, integers, dest_of, source_of, variable_of, number_of, all_three, with_two, with_three, counted, table_with, table_of, op_alone, op_with_one, device_op, variable_op, op_with_two, op_with_three, magic_of, op_of, head_alone, name_line, head_with_one, head_with_two, head_of, line_of}
-use Rattle.interp_code.proofs.BoolLemmas.{and_right}
 
 abbrev pub IsName : List ℕ → Type 0
 IsName n = is_name_within 66 n ≡ true
@@ -54,7 +54,7 @@ digits_pass most (c ∷ cs) =
     either (λ n. n ≤ most) (list_all is_digit (c ∷ cs) && nat_le (value_behind 0 (c ∷ cs)) most) (Some (value_behind 0 (c ∷ cs))) None (λ h. few h) tt
   where
     few : (list_all is_digit (c ∷ cs) && nat_le (value_behind 0 (c ∷ cs)) most) ≡ true → value_behind 0 (c ∷ cs) ≤ most
-    few h = let fits = and_right (list_all is_digit (c ∷ cs)) (nat_le (value_behind 0 (c ∷ cs)) most) h in grind (arith, nat_tests)
+    few h = let fits = (and_parts (list_all is_digit (c ∷ cs)) (nat_le (value_behind 0 (c ∷ cs)) most) h).1 in grind (arith, nat_tests)
 
 zero_passes : (most : ℕ) (o : Option ℕ) → Passes (λ n. n ≤ 0) o → Passes (λ n. n ≤ most) o
 zero_passes most None h = tt

@@ -2,7 +2,7 @@
 use Rattle.std.proofs.Common.{◌≡◌, ◌≢◌, ℕ, suc, ◌^◌, ◌<◌, ◌≤◌, Bool, true, false, not, ◌==◌, nat_le, List, [], ◌∷◌, ◌++◌, length, Option, Some, ℤ, pos, negsuc, int_le, FitsSigned, refl, ap, ◌∙◌, arith, rules, All}
 use mir.Syntax.{w16}
 use Rattle.std.proofs.lemmas.Bool.Decides.{nat_tests}
-use Rattle.std.proofs.lemmas.Bool.{false≢true}
+use Rattle.std.proofs.lemmas.Bool.{false≢true, and_parts}
 use Rattle.std.proofs.lemmas.List.Sums.{AllPass-from_list_all}
 use Rattle.std.proofs.lemmas.List.Elements.{All-weaker}
 use Rattle.std.proofs.lemmas.Str.Parse.{IsNumeralModel, numerals_by_fold}
@@ -25,7 +25,6 @@ use Rattle.int_code.specs.Text.{dest_text, source_text, variable_text, number_te
 use Rattle.int_code.specs.WellFormed.{Sizes, IsDest, IsSource, IsNumSource}
 use Rattle.interp_code.specs.Line.{most_count, number_to, integer, index, name, dest_of, source_of, variable_of, number_of}
 use Rattle.int_code.specs.Literals.{IsNumber, HoldsNumber}
-use Rattle.interp_code.proofs.BoolLemmas.{and_left, and_right}
 
 pub own : IsNumeralModel (λ ds. list_all is_digit ds ≡ true) (value_behind 0)
 own = numerals_by_fold _ (search rules) value_behind (search rules)
@@ -45,7 +44,7 @@ pub record Spells {A : Type 0} (read : List ℕ → Option A) (text : List ℕ) 
 
 list_all-weaker : {A : Type 0} (p q : A → Bool) → ((x : A) → p x ≡ true → q x ≡ true) → (xs : List A) → list_all p xs ≡ true → list_all q xs ≡ true
 list_all-weaker p q h [] k = refl
-list_all-weaker p q h (x ∷ xs) k = rw (h x (and_left (p x) (list_all p xs) k)) (list_all-weaker p q h xs (and_right (p x) (list_all p xs) k))
+list_all-weaker p q h (x ∷ xs) k = rw (h x (and_parts (p x) (list_all p xs) k).0) (list_all-weaker p q h xs (and_parts (p x) (list_all p xs) k).1)
 
 digit_lacks : (s x : ℕ) → s < 45 → is_digit x ≡ true → not (x == s) ≡ true
 digit_lacks s x h d = grind (arith, nat_tests)
@@ -73,13 +72,13 @@ name_spells (n ∷ ns) k = record {
 }
   where
     bytes : list_all is_name_byte (n ∷ ns) ≡ true
-    bytes = and_left (list_all is_name_byte (n ∷ ns)) _ (and_right (not (is_digit n)) _ k)
+    bytes = (and_parts (list_all is_name_byte (n ∷ ns)) _ (and_parts (not (is_digit n)) _ k).1).0
 
 -- the bytes of names are ASCII
 pub name_is_ascii : (ns : List ℕ) → is_name_within 66 ns ≡ true → All (λ b. b < 128) ns
 name_is_ascii [] k = absurd (false≢true k)
 name_is_ascii (n ∷ ns) k =
-    let bytes = and_left (list_all is_name_byte (n ∷ ns)) _ (and_right (not (is_digit n)) _ k) in
+    let bytes = (and_parts (list_all is_name_byte (n ∷ ns)) _ (and_parts (not (is_digit n)) _ k).1).0 in
     All-weaker (λ b. is_name_byte b ≡ true) (λ b. b < 128) (λ b h. grind (arith, nat_tests)) (n ∷ ns) (AllPass-from_list_all is_name_byte (n ∷ ns) bytes)
 
 -- a decimal number
@@ -95,21 +94,21 @@ number_is_digits most [] d = refl
 number_is_digits most (c ∷ cs) d = rw plain refl
   where
     plain : (c == 45) ≡ false
-    plain = let first = and_left (is_digit c) (list_all is_digit cs) d in grind (arith, nat_tests)
+    plain = let first = (and_parts (is_digit c) (list_all is_digit cs) d).0 in grind (arith, nat_tests)
 
 integer_is_digits : (ds : List ℕ) → list_all is_digit ds ≡ true → integer ds ≡ option_map pos (digits_to 32767 ds)
 integer_is_digits [] d = refl
 integer_is_digits (c ∷ cs) d = rw plain refl
   where
     plain : (c == 45) ≡ false
-    plain = let first = and_left (is_digit c) (list_all is_digit cs) d in grind (arith, nat_tests)
+    plain = let first = (and_parts (is_digit c) (list_all is_digit cs) d).0 in grind (arith, nat_tests)
 
 number_is_integer : (ds : List ℕ) → list_all is_digit ds ≡ true → number_of ds ≡ option_map N (integer ds)
 number_is_integer [] d = refl
 number_is_integer (c ∷ cs) d = rw plain refl
   where
     plain : (c == 118) ≡ false
-    plain = let first = and_left (is_digit c) (list_all is_digit cs) d in grind (arith, nat_tests)
+    plain = let first = (and_parts (is_digit c) (list_all is_digit cs) d).0 in grind (arith, nat_tests)
 
 pub decimal_digits : (n : ℕ) → n < 2 ^ 64 → list_all is_digit (decimal n) ≡ true
 decimal_digits n h = digits_decimal own n h
@@ -141,13 +140,13 @@ short_pos_by : (n : ℕ) → int_le (pos n) (pos 32767) ≡ true → n ≤ 32767
 short_pos_by n h = grind (arith, ints, nat_tests)
 
 short_pos : (n : ℕ) → IsNumber (pos n) → n ≤ 32767
-short_pos n h = short_pos_by n (and_right (int_le (negsuc 32767) (pos n)) (int_le (pos n) (pos 32767)) h)
+short_pos n h = short_pos_by n (and_parts (int_le (negsuc 32767) (pos n)) (int_le (pos n) (pos 32767)) h).1
 
 short_negsuc_by : (n : ℕ) → int_le (negsuc 32767) (negsuc n) ≡ true → suc n ≤ 32768
 short_negsuc_by n h = grind (arith, ints, nat_tests)
 
 short_negsuc : (n : ℕ) → IsNumber (negsuc n) → suc n ≤ 32768
-short_negsuc n h = short_negsuc_by n (and_left (int_le (negsuc 32767) (negsuc n)) (int_le (negsuc n) (pos 32767)) h)
+short_negsuc n h = short_negsuc_by n (and_parts (int_le (negsuc 32767) (negsuc n)) (int_le (negsuc n) (pos 32767)) h).0
 
 minus_clean : (ds : List ℕ) → IsClean ds → IsClean (45 ∷ ds)
 minus_clean ds h = λ s low. let other : (45 == s) ≡ false = grind (arith, nat_tests) in rw (other, h s low) refl

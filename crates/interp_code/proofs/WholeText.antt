@@ -1,5 +1,6 @@
 -- The text of a program says the program.
 use Rattle.std.proofs.Common.{◌≡◌, ℕ, true, List, [], ◌∷◌, ◌++◌, map, ℤ, Some, refl, ap, ◌∙◌, append_assoc, arith, All}
+use Rattle.std.proofs.lemmas.Bool.{and_parts}
 use Rattle.std.proofs.lemmas.List.Elements.{All-head, All-tail}
 use Rattle.std.specs.List.{list_all}
 use Rattle.texts.specs.Lines.{lines, joined}
@@ -13,7 +14,6 @@ use Rattle.interp_code.specs.Line.{Line, Input, Output, Analog, Relay, Persisten
 use Rattle.int_code.specs.Literals.{IsNumber, HoldsNumbers}
 use Rattle.interp_code.specs.Text.{variables, line_text, spelled, interp_text}
 use Rattle.interp_code.specs.Program.{IsWritable, IsProgram, read_as}
-use Rattle.interp_code.proofs.BoolLemmas.{and_left, and_right}
 use Rattle.interp_code.proofs.SpelledWords.{IsSmall, from_lacks}
 use Rattle.interp_code.proofs.ReadsBack.{Reads, magic_reads, cycle_reads, input_reads, output_reads, analog_reads, variable_reads, relay_reads, persistent_reads, bits_reads, code_reads, op_reads, end_reads}
 
@@ -30,17 +30,17 @@ names_read : (f : List ℕ → Line) → ((n : List ℕ) → is_name_within 66 n
     → AllRead (map f ns)
 names_read f each [] h = tt
 names_read f each (n ∷ ns) h = (
-  each n (and_left (is_name_within 66 n) (list_all (is_name_within 66) ns) h),
+  each n (and_parts (is_name_within 66 n) (list_all (is_name_within 66) ns) h).0,
   names_read f each ns
-      (and_right (is_name_within 66 n) (list_all (is_name_within 66) ns) h),
+      (and_parts (is_name_within 66 n) (list_all (is_name_within 66) ns) h).1,
 )
 
 pub variables_read : (ns : List (List ℕ)) (values : List ℤ) → list_all (is_name_within 66) ns ≡ true → All IsNumber values → AllRead (variables ns values)
 variables_read [] values h short = tt
 variables_read (n ∷ ns) [] h short = tt
 variables_read (n ∷ ns) (v ∷ vs) h short = (
-  variable_reads n v (and_left (is_name_within 66 n) (list_all (is_name_within 66) ns) h) (All-head IsNumber v vs short),
-  variables_read ns vs (and_right (is_name_within 66 n) (list_all (is_name_within 66) ns) h) (All-tail IsNumber v vs short),
+  variable_reads n v (and_parts (is_name_within 66 n) (list_all (is_name_within 66) ns) h).0 (All-head IsNumber v vs short),
+  variables_read ns vs (and_parts (is_name_within 66 n) (list_all (is_name_within 66) ns) h).1 (All-tail IsNumber v vs short),
 )
 
 ops_read : (n : Sizes) → IsSmall n → (ops : List IntOp) → All (IsInRange n) ops → All HoldsNumbers ops → AllRead (map Operation ops)

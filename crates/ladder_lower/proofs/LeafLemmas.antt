@@ -1,5 +1,6 @@
 -- The elements of nodes, and what is known of parts of a list of them.
 use Rattle.std.proofs.Common.{◌≡◌, ◌&&◌, ℕ, Bool, true, false, List, [], ◌∷◌, ◌++◌, refl, ◌∙◌, sym}
+use Rattle.std.proofs.lemmas.Bool.{and_parts}
 use Rattle.std.proofs.lemmas.List.Folds.{list_all-append}
 use Rattle.ladder_tree.specs.Leaves.{leaves, leaves_in, leaves_step}
 use Rattle.ladder_tree.specs.declared.element.Leaf as leaf
@@ -27,22 +28,14 @@ pub named_back : (p : Layout) (a b : List leaf.Leaf) → AllNamed p (a ++ b) →
 named_back p [] b h = h
 named_back p (l ∷ a) b h = named_back p a b h.1
 
-first_true : (a b : Bool) → (a && b) ≡ true → a ≡ true
-first_true true b h = refl
-first_true false b h = h
-
-second_true : (a b : Bool) → (a && b) ≡ true → b ≡ true
-second_true true b h = h
-second_true false b h = absurd (cc)
-
 pub fit_first : (cycle : ℕ) (l : leaf.Leaf) (ls : List leaf.Leaf) → all_fit cycle (l ∷ ls) ≡ true → is_fit cycle l.kind ≡ true
-fit_first cycle l ls h = first_true (is_fit cycle l.kind) (all_fit cycle ls) h
+fit_first cycle l ls h = (and_parts (is_fit cycle l.kind) (all_fit cycle ls) h).0
 
 pub fit_front : (cycle : ℕ) (a b : List leaf.Leaf) → all_fit cycle (a ++ b) ≡ true → all_fit cycle a ≡ true
-fit_front cycle a b h = first_true (all_fit cycle a) (all_fit cycle b) (sym (list_all-append (λ (l : leaf.Leaf). is_fit cycle l.kind) a b) ∙ h)
+fit_front cycle a b h = (and_parts (all_fit cycle a) (all_fit cycle b) (sym (list_all-append (λ (l : leaf.Leaf). is_fit cycle l.kind) a b) ∙ h)).0
 
 pub fit_back : (cycle : ℕ) (a b : List leaf.Leaf) → all_fit cycle (a ++ b) ≡ true → all_fit cycle b ≡ true
-fit_back cycle a b h = second_true (all_fit cycle a) (all_fit cycle b) (sym (list_all-append (λ (l : leaf.Leaf). is_fit cycle l.kind) a b) ∙ h)
+fit_back cycle a b h = (and_parts (all_fit cycle a) (all_fit cycle b) (sym (list_all-append (λ (l : leaf.Leaf). is_fit cycle l.kind) a b) ∙ h)).1
 
 -- elements that operations can hold: their names have places, and their numbers fit
 pub record Apt (p : Layout) (ls : List leaf.Leaf) : Type 0 where

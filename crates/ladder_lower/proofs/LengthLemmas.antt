@@ -1,5 +1,6 @@
 -- How long the lines of operations are.
 use Rattle.std.proofs.Common.{◌≡◌, ℕ, suc, ◌+◌, ◌*◌, ◌<◌, ◌≤◌, ℤ, pos, negsuc, Bool, true, false, ◌&&◌, int_le, nat_le, List, [], ◌∷◌, ◌++◌, length, map, arith}
+use Rattle.std.proofs.lemmas.Bool.{and_parts}
 use Rattle.std.proofs.Common.{codes, decimal, refl, All, length-append, lit<}
 use Rattle.std.proofs.lemmas.Bool.Decides.{nat_tests}
 use Rattle.std.proofs.lemmas.Fmt.{length-decimal-le}
@@ -36,15 +37,11 @@ six_digits k lt = length-decimal-le 6 k (lit< tt) (omega arith) (omega arith)
 within : (k most : ℕ) → nat_le k most ≡ true → k ≤ most
 within k most h = grind (arith, nat_tests)
 
-first_true : (a b : Bool) → (a && b) ≡ true → a ≡ true
-first_true true b h = refl
-first_true false b h = cc
-
 below_by : (k : ℕ) → int_le (negsuc 32767) (negsuc k) ≡ true → k ≤ 32767
 below_by k h = grind (arith, ints, nat_tests)
 
 below : (k : ℕ) → IsNumber (negsuc k) → k ≤ 32767
-below k h = below_by k (first_true (int_le (negsuc 32767) (negsuc k)) _ h)
+below k h = below_by k (and_parts (int_le (negsuc 32767) (negsuc k)) _ h).0
 
 pub signed_short : (n : ℤ) → IsNumber n → length (signed_decimal n) ≤ 7
 signed_short (pos k) h = let le = within k 32767 h in let d = six_digits k (omega (arith, le)) in omega (arith, d)

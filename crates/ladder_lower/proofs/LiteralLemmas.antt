@@ -1,5 +1,6 @@
 -- The numbers that stand in a program's operations have 16 bits.
 use Rattle.std.proofs.Common.{◌≡◌, ℕ, zero, suc, ℤ, pos, Bool, true, false, cond, ◌&&◌, nat_le, List, [], ◌∷◌, ◌++◌, length, All, refl, arith}
+use Rattle.std.proofs.lemmas.Bool.{and_parts}
 use Rattle.std.proofs.lemmas.List.Elements.{All-nil, All-cons, All-from_recursion}
 use Rattle.std.specs.List.{list_all, AllByRecursion}
 use Rattle.std.specs.Str.{bytes_eq}
@@ -44,13 +45,9 @@ numbers_append : (a b : List IntOp) → AllNumbers a → AllNumbers b → AllNum
 numbers_append [] b f g = g
 numbers_append (op ∷ a) b f g = (f.0, numbers_append a b f.1 g)
 
-both_true : (a b : Bool) → (a && b) ≡ true → (a ≡ true) × (b ≡ true)
-both_true true b h = (refl, h)
-both_true false b h = absurd cc
-
 numbers_are : (ns : List ℤ) → list_all is_number ns ≡ true → All IsNumber ns
 numbers_are [] h = All-nil IsNumber
-numbers_are (n ∷ ns) h = let b = both_true (is_number n) _ h in All-cons IsNumber n ns b.0 (numbers_are ns b.1)
+numbers_are (n ∷ ns) h = let b = and_parts (is_number n) _ h in All-cons IsNumber n ns b.0 (numbers_are ns b.1)
 
 limit_is : (n : ℕ) → nat_le n 32767 ≡ true → IsNumber (pos n)
 limit_is n h = h
@@ -124,12 +121,12 @@ module _ (p : Layout) where
   element_numbers (Reset name) k h = (tt, (none_is, (tt, tt)))
   element_numbers (Move dest src) k h = (tt, (move_numbers _ _ (operand_is src h), (tt, tt)))
   element_numbers (Math how dest a b) k h =
-      let f = both_true (is_fit_operand a) _ h in (tt, (math_numbers how _ _ _ (operand_is a f.0) (operand_is b f.1), (tt, tt)))
-  element_numbers (Compare how a b) k h = let f = both_true (is_fit_operand a) _ h in compare_numbers how _ _ (operand_is a f.0) (operand_is b f.1)
+      let f = and_parts (is_fit_operand a) _ h in (tt, (math_numbers how _ _ _ (operand_is a f.0) (operand_is b f.1), (tt, tt)))
+  element_numbers (Compare how a b) k h = let f = and_parts (is_fit_operand a) _ h in compare_numbers how _ _ (operand_is a f.0) (operand_is b f.1)
   element_numbers (Shift name places) k h = rise_numbers k (moves p name places) (moves_numbers name places)
   element_numbers (Table dest index as_text values) k h =
-      let f = both_true (nat_le (length values) TABLE_VALUES) _ h in
-      let g = both_true (is_fit_operand index) _ f.1 in
+      let f = and_parts (nat_le (length values) TABLE_VALUES) _ h in
+      let g = and_parts (is_fit_operand index) _ f.1 in
       (tt, ((operand_is index g.0, numbers_are values g.1), (tt, tt)))
   element_numbers (ReadAdc name) k h = (tt, (tt, (tt, tt)))
   element_numbers (SetPwm name hz) k h = (tt, ((tt, h), (tt, tt)))
@@ -169,4 +166,4 @@ start_by_number cycle _ name n f h = h
 pub start_is_number : (cycle : ℕ) (ls : List leaf.Leaf) (name : List ℕ) → all_fit cycle ls ≡ true → IsNumber (start_number cycle ls name)
 start_is_number cycle [] name h = none_is
 start_is_number cycle (l ∷ ls) name h =
-    let f = both_true (is_fit cycle l.kind) _ h in start_by_number cycle l.kind name _ f.0 (start_is_number cycle ls name f.1)
+    let f = and_parts (is_fit cycle l.kind) _ h in start_by_number cycle l.kind name _ f.0 (start_is_number cycle ls name f.1)

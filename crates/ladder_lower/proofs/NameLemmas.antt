@@ -1,5 +1,6 @@
 -- The lists of a project's names: each holds the names of its kind once, and all names that elements have.
 use Rattle.std.proofs.Common.{◌≡◌, ℕ, zero, suc, ◌+◌, ◌*◌, ◌<◌, ◌≤◌, ◌||◌, Bool, true, false, cond, List, [], ◌∷◌, ◌++◌, length, refl, ◌∙◌, subst, arith}
+use Rattle.std.proofs.lemmas.Bool.{or_left, or_right}
 use Rattle.std.proofs.Common.{length-append}
 use Rattle.std.proofs.lemmas.Bool.Decides.{nat_tests}
 use Rattle.std.proofs.lemmas.List.Folds.{list_any-append}
@@ -149,12 +150,6 @@ record Lists (p : Layout) (bs vs ks ps : List (List ℕ)) : Type 0 where
 
 held_append : (xs ys : List (List ℕ)) (m : List ℕ) → held (xs ++ ys) m ≡ (held xs m || held ys m)
 held_append xs ys m = list_any-append (λ x. bytes_eq x m) xs ys
-
-or_left : (a b : Bool) → a ≡ true → (a || b) ≡ true
-or_left a b e = grind (arith, e)
-
-or_right : (a b : Bool) → b ≡ true → (a || b) ≡ true
-or_right a b e = grind (arith, e)
 
 pub held_front : (xs ys : List (List ℕ)) (m : List ℕ) → held xs m ≡ true → held (xs ++ ys) m ≡ true
 held_front xs ys m h = held_append xs ys m ∙ or_left _ _ h

@@ -1,5 +1,6 @@
 -- The numbers of bits, variables and all else are in range.
 use Rattle.std.proofs.Common.{◌≡◌, ℕ, zero, suc, ◌+◌, ◌<◌, ◌≤◌, Bool, true, false, ◌&&◌, cond, List, [], ◌∷◌, ◌++◌, ℤ, pos, length, refl, ap, arith}
+use Rattle.std.proofs.lemmas.Bool.{and_parts}
 use Rattle.std.proofs.lemmas.Bool.Decides.{nat_tests}
 use Rattle.std.proofs.lemmas.List.Elements.{All-from_recursion}
 use Rattle.std.specs.Fmt.{decimal}
@@ -57,10 +58,6 @@ all_held_front list (x ∷ xs) ys h = (h.0, all_held_front list xs ys h.1)
 all_held_back : (list xs ys : List (List ℕ)) → AllHeld list (xs ++ ys) → AllHeld list ys
 all_held_back list [] ys h = h
 all_held_back list (x ∷ xs) ys h = all_held_back list xs ys h.1
-
-first_true : (a b : Bool) → (a && b) ≡ true → a ≡ true
-first_true true b h = refl
-first_true false b h = cc
 
 module _ (p : Layout) (z : Sizes) where
   abbrev AllIn : List IntOp → Type 0
@@ -192,8 +189,7 @@ module _ (p : Layout) (z : Sizes) where
       compare_in d how _ _ x y s
   element_in d (Shift name places) k lt h e s = rise_in d k _ lt (moves_in d name places h.variables s) s
   element_in d (Table to index as_text values) k lt h e s =
-      where_in d (Tab (variable_of p to) (number_of p index) values) (table_in d to index values h.variables (first_true (nat_le (length values) TABLE_VALUES)
-      _ e) s) s
+      where_in d (Tab (variable_of p to) (number_of p index) values) (table_in d to index values h.variables (and_parts (nat_le (length values) TABLE_VALUES) _ e).0 s) s
   element_in d (ReadAdc name) k lt h e s =
       where_in d (Adc (variable_of p name) (place_of p.analog name))
       (variable_in d name h.variables.0 s, (let at = place_below p.analog name h.place in let a = s.analogs in omega arith)) s

@@ -1,5 +1,6 @@
 -- Where no rule is broken, each name that needs a pin has one that serves it, and no other name has that.
 use Rattle.std.proofs.Common.{◌≡◌, ◌≢◌, ℕ, zero, suc, ◌<◌, Bool, true, false, not, ◌||◌, cond, List, [], ◌∷◌, ◌++◌, length, get_or, Option, Some, None, inl, inr, refl, sym, ap, ◌∙◌, arith, append_assoc}
+use Rattle.std.proofs.lemmas.Bool.{or_parts}
 use Rattle.std.specs.Prelude.{is_some, IsSome, IfSome, filter}
 use Rattle.std.specs.Bool.{then_some}
 use Rattle.std.specs.List.{All, list_any}
@@ -27,7 +28,7 @@ use Rattle.ladder_rules.specs.Twice.{AreClear}
 use Rattle.ladder_rules.specs.Verdict.{rule}
 use Rattle.ladder_rules.specs.declared.chip_rule.ChipRule.TheVariants.{PinUnassigned, NoSuchPin}
 use Rattle.ladder_rules.specs.declared.rule.ElementRule.TheVariants.{OnChip}
-use Rattle.ladder_rules.proofs.RuleLemmas.{kept, none_tells, on_chip, or_parts}
+use Rattle.ladder_rules.proofs.RuleLemmas.{kept, none_tells, on_chip}
 use Rattle.ladder_rules.proofs.TwiceLemmas.{Order, order, none_some, some_same, untold_none}
 
 abbrev Texts : Type 0

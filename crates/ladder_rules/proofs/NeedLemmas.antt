@@ -1,5 +1,6 @@
 -- What a project within the limits needs is a small number.
 use Rattle.std.proofs.Common.{◌≡◌, ℕ, ◌+◌, ◌*◌, ◌≤◌, Bool, true, false, ◌&&◌, cond, nat_le, List, [], ◌∷◌, ◌++◌, length, map, refl, arith, length-append}
+use Rattle.std.proofs.lemmas.Bool.{and_parts}
 use Rattle.std.specs.Prelude.{◌-◌, ◌==◌, if◌then◌else◌, Option, Some, None, slice_index_or}
 use Rattle.std.specs.List.{All, list_any}
 use Rattle.std.proofs.lemmas.Bool.Decides.{nat_tests}
@@ -40,21 +41,17 @@ record IsLow (c : Cost) : Type 0 where
 is_low : Cost → Bool
 is_low c = nat_le c.words 5000 && (nat_le c.cycles 5000 && (nat_le c.ops 5000 && (nat_le c.words_each 4700 && (nat_le c.cycles_each 4700 && nat_le c.ops_each 4700))))
 
-both_hold : (a b : Bool) → (a && b) ≡ true → (a ≡ true) × (b ≡ true)
-both_hold true b t = (refl, t)
-both_hold false b t = let clash : ⊥ = cc in absurd clash
-
 within : (a b : ℕ) → nat_le a b ≡ true → a ≤ b
 within a b t = grind (arith, nat_tests, t)
 
 low : (c : Cost) → is_low c ≡ true → IsLow c
 unfolding is_low
 low c t =
-    let a = both_hold (nat_le c.words 5000) _ t in
-    let b = both_hold (nat_le c.cycles 5000) _ a.1 in
-    let d = both_hold (nat_le c.ops 5000) _ b.1 in
-    let e = both_hold (nat_le c.words_each 4700) _ d.1 in
-    let f = both_hold (nat_le c.cycles_each 4700) (nat_le c.ops_each 4700) e.1 in
+    let a = and_parts (nat_le c.words 5000) _ t in
+    let b = and_parts (nat_le c.cycles 5000) _ a.1 in
+    let d = and_parts (nat_le c.ops 5000) _ b.1 in
+    let e = and_parts (nat_le c.words_each 4700) _ d.1 in
+    let f = and_parts (nat_le c.cycles_each 4700) (nat_le c.ops_each 4700) e.1 in
     record {
       words = within c.words 5000 a.0;
       cycles = within c.cycles 5000 b.0;

@@ -1,5 +1,6 @@
 -- What a project that keeps the rules has.
 use Rattle.std.proofs.Common.{◌≡◌, ℕ, Bool, true, false, ◌&&◌, ◌||◌, nat_eq, cond, List, [], ◌∷◌, ◌++◌, Option, Some, None, refl, sym, ap, ◌∙◌}
+use Rattle.std.proofs.lemmas.Bool.{or_from, or_parts}
 use Rattle.std.specs.Prelude.{is_some, is_none, IfSome}
 use Rattle.std.specs.Bool.{then_some}
 use Rattle.std.specs.List.{list_any}
@@ -78,16 +79,13 @@ kept p e =
       pwm = q.0;
     }
 
-or_false : (a b : Bool) → a ≡ false → b ≡ false → (a || b) ≡ false
-or_false a b d e = rw (d, e) refl
-
 module _ (broken : Spot → Option ProjectFault) (test : LeafKind → Bool) (tells : (s : Spot) → broken s ≡ None → test s.leaf.kind ≡ false) where
   none_by : (pre : List element.Leaf) (xs : List Placed) → first_fault broken (spots_behind pre xs) ≡ None → list_any (λ l. test l.kind) (elements xs) ≡ false
   none_by pre [] e = refl
   none_by pre (x ∷ xs) e =
       let s : Spot = record { leaf = x.leaf; before = pre; at_right_end = x.at_right_end } in
       let both = neither (broken s) _ e in
-      or_false _ _ (tells s both.0) (none_by (pre ++ x.leaf ∷ []) xs both.1)
+      or_from _ _ (tells s both.0) (none_by (pre ++ x.leaf ∷ []) xs both.1)
 
   -- where no element breaks a rule, none is as it tells
   pub none_tells : (p : Project) → first_fault broken (spots p.rungs) ≡ None → list_any (λ l. test l.kind) (all_leaves p.rungs) ≡ false
@@ -151,10 +149,6 @@ baud_there p e chip =
 some_false : {A : Type 0} (o : Option A) → is_none o ≡ false → is_some o ≡ true
 some_false None e = let clash : ⊥ = cc in absurd clash
 some_false (Some x) e = refl
-
-pub or_parts : (a b : Bool) → (a || b) ≡ false → (a ≡ false) × (b ≡ false)
-or_parts false b e = (refl, e)
-or_parts true b e = let clash : ⊥ = cc in absurd clash
 
 pwm_kind : (p : Project) (k : LeafKind) (rest : Option ℕ) (more : Bool) → lacks_rate p k ≡ false →
     is_some (option_and_then (pwm_of p.target p.crystal) rest) ≡ more →

@@ -1,5 +1,6 @@
 -- What a reader has read spells what the lines said, and keeps the limits.
 use Rattle.std.proofs.Common.{◌≡◌, ℕ, ◌+◌, ◌-◌, ◌≤◌, Bool, true, false, not, cond, eqb, nat_le, ◌&&◌, ◌||◌, List, [], ◌∷◌, ◌++◌, length, map, Option, Some, None, is_some, refl, sym, ap, subst, ◌∙◌, arith, append_assoc, append-nil, length-append, lit≤}
+use Rattle.std.proofs.lemmas.Bool.{or_parts}
 use Rattle.std.specs.List.{list_all}
 use Rattle.std.proofs.lemmas.List.{map-append}
 use Rattle.std.proofs.lemmas.List.Folds.{list_all-append}
@@ -339,10 +340,6 @@ and_false : (a b : Bool) → not a ≡ true → (not a && (b)) ≡ false → b �
 and_false true b h e = absurd cc
 and_false false b h e = e
 
-or_right : (a b : Bool) → (a || b) ≡ false → b ≡ false
-or_right true b h = absurd cc
-or_right false b h = h
-
 not_first : (x : Site) → (x ≡ site.First → ⊥) → not (is_first x) ≡ true
 not_first site.First h = absurd (h refl)
 not_first site.Header h = refl
@@ -358,7 +355,7 @@ chip_built : (s : Standing) (bytes : List ℕ) (size : ℕ) (t : Target) → s.p
     → Passes s.place bytes size (Is (Header (header.Micro (Some t)))) → is_target_built t ≡ true
 chip_built s bytes size t e p =
     let rows = ap (λ x. not (is_first x) && (begins_unbuilt s.place.target (tokens bytes) || not (is_target_built t))) (sym e) ∙ p.built in
-    built_if (is_target_built t) (or_right (begins_unbuilt s.place.target (tokens bytes)) (not (is_target_built t)) rows)
+    built_if (is_target_built t) (or_parts (begins_unbuilt s.place.target (tokens bytes)) (not (is_target_built t)) rows).1
 
 no_chip : (o : Option Target) → is_chipless o (Is (Header (header.Micro None))) ≡ false → ⊥
 no_chip None h = absurd cc

@@ -1,5 +1,6 @@
 -- What is known of a line that has no fault, and of one that stops the reader.
 use Rattle.std.proofs.Common.{◌≡◌, ℕ, ◌+◌, ◌<◌, ◌≤◌, Bool, true, false, not, cond, ltb, leb, ◌&&◌, ◌||◌, List, length, Option, Some, None, refl, sym, ap, ◌∙◌, arith}
+use Rattle.std.proofs.lemmas.Bool.{or_parts}
 use Rattle.std.proofs.lemmas.Bool.Decides.{nat_tests}
 use Rattle.ladder_tree.specs.declared.fault.ProjectFault.{ProjectFault}
 use Rattle.texts.specs.declared.limits.TheConstants.{LINE_BYTES, FILE_BYTES}
@@ -42,10 +43,6 @@ passes p number bytes size said h =
     let i = none_of _ _ _ g.1 in
     record { short = a.0; known = b.0; built = c.0; good = d.0; chip = e.0; range = f.0; shallow = g.0; few = i.0 }
 
-or_false : (a b : Bool) → (a || b) ≡ false → (a ≡ false) × (b ≡ false)
-or_false true b h = absurd cc
-or_false false b h = (refl, h)
-
 not_over : (n k : ℕ) → ltb n k ≡ false → k ≤ n
 not_over n k h = grind (arith, nat_tests)
 
@@ -67,7 +64,7 @@ room_for p (Body mark.End) d f = tt
 pub room : (p : Place) (number : ℕ) (bytes : List ℕ) (size : ℕ) (form : LineForm) → fault_of p number bytes size (Is form) ≡ None → HasRoom p size form
 room p number bytes size form h =
     let all = passes p number bytes size (Is form) h in
-    let few = or_false (is_one_too_many p (Is form)) (ltb FILE_BYTES (p.bytes + size)) all.few in
+    let few = or_parts (is_one_too_many p (Is form)) (ltb FILE_BYTES (p.bytes + size)) all.few in
     (not_over FILE_BYTES (p.bytes + size) few.1, room_for p form all.shallow few.0)
 
 -- the line says something, has no fault, and takes the reader there

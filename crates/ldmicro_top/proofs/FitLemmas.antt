@@ -1,5 +1,6 @@
 -- A project that is read and keeps the rules has only numbers that operations hold.
 use Rattle.std.proofs.Common.{◌≡◌, ◌≢◌, ℕ, Bool, true, false, not, ◌&&◌, ◌||◌, nat_eq, nat_lt, nat_le, List, [], ◌∷◌, ◌++◌, Option, Some, None, refl, sym, ap, ◌∙◌, arith}
+use Rattle.std.proofs.lemmas.Bool.{and_from, and_parts, or_parts}
 use Rattle.std.proofs.lemmas.Bool.Decides.{nat_tests}
 use Rattle.std.specs.Bool.{then_some}
 use Rattle.std.specs.List.{list_all}
@@ -32,13 +33,6 @@ not_so : (b : Bool) (f : ProjectFault) → then_some b f ≡ None → b ≡ fals
 not_so false f e = refl
 not_so true f e = let clash : ⊥ = cc in absurd clash
 
-parts : (a b : Bool) → (a && b) ≡ true → (a ≡ true) × (b ≡ true)
-parts true b h = (refl, h)
-parts false b h = absurd cc
-
-both : (a b : Bool) → a ≡ true → b ≡ true → (a && b) ≡ true
-both a b e f = rw (e, f) refl
-
 abbrev none_long : ℕ → List element.Leaf → Bool
 none_long cycle ls = list_all (λ l. not (is_long cycle l.kind)) ls
 
@@ -49,15 +43,11 @@ timers_by p pre (x ∷ xs) e =
     let two = neither (fault_of TimerLong p (record { leaf = x.leaf; before = pre; at_right_end = x.at_right_end })) _ e in
     rw (not_so (is_long p.cycle x.leaf.kind) _ two.0, timers_by p (pre ++ x.leaf ∷ []) xs two.1) refl
 
-first_false : (a b : Bool) → (a || b) ≡ false → a ≡ false
-first_false false b e = refl
-first_false true b e = let clash : ⊥ = cc in absurd clash
-
 some_cycle : (n : ℕ) → nat_eq n 0 ≡ false → n ≢ 0
 some_cycle n h e = grind (arith, nat_tests)
 
 pub cycle_some : (p : Project) → rule p ≡ None → p.cycle ≢ 0
-cycle_some p e = some_cycle p.cycle (first_false (nat_eq p.cycle 0) _ (not_so _ _ (kept p e).cycle))
+cycle_some p e = some_cycle p.cycle (or_parts (nat_eq p.cycle 0) _ (not_so _ _ (kept p e).cycle)).0
 
 no_longer : (cycle periods : ℕ) → cycle ≢ 0 → (not (nat_eq cycle 0) && nat_lt 32767 periods) ≡ false → nat_le periods 32767 ≡ true
 no_longer cycle periods ne h = grind (arith, nat_tests)
@@ -75,26 +65,26 @@ not_false true h = absurd cc
 
 kind_fit : (cycle : ℕ) (k : LeafKind) → cycle ≢ 0 → not (is_long cycle k) ≡ true → is_read_kind k ≡ true → is_fit cycle k ≡ true
 kind_fit cycle (kind.Timer how name delay) ne l h = no_longer cycle (period cycle delay) ne (not_false _ l)
-kind_fit cycle (kind.Counter how name max) ne l h = (parts (is_name name) _ h).1
-kind_fit cycle (kind.Move dest src) ne l h = operand_fit src (parts (is_name dest) _ h).1
+kind_fit cycle (kind.Counter how name max) ne l h = (and_parts (is_name name) _ h).1
+kind_fit cycle (kind.Move dest src) ne l h = operand_fit src (and_parts (is_name dest) _ h).1
 kind_fit cycle (kind.Math how dest a b) ne l h =
-    let q = parts (is_read_operand a) _ (parts (is_name dest) _ h).1 in
-    both _ _ (operand_fit a q.0) (operand_fit b q.1)
-kind_fit cycle (kind.Compare how a b) ne l h = let q = parts (is_read_operand a) _ h in both _ _ (operand_fit a q.0) (operand_fit b q.1)
-kind_fit cycle (kind.Shift name places) ne l h = (parts (nat_le 1 places) _ (parts (is_name name) _ h).1).1
+    let q = and_parts (is_read_operand a) _ (and_parts (is_name dest) _ h).1 in
+    and_from _ _ (operand_fit a q.0) (operand_fit b q.1)
+kind_fit cycle (kind.Compare how a b) ne l h = let q = and_parts (is_read_operand a) _ h in and_from _ _ (operand_fit a q.0) (operand_fit b q.1)
+kind_fit cycle (kind.Shift name places) ne l h = (and_parts (nat_le 1 places) _ (and_parts (is_name name) _ h).1).1
 kind_fit cycle (kind.Table dest index as_text values) ne l h =
-    let q = parts (is_read_operand index && list_all is_number values) _ (parts (is_name dest) _ h).1 in
-    let r = parts (is_read_operand index) _ q.0 in
-    both _ _ q.1 (both _ _ (operand_fit index r.0) r.1)
-kind_fit cycle (kind.SetPwm name hz) ne l h = hertz_fit hz (parts (is_name name) _ h).1
+    let q = and_parts (is_read_operand index && list_all is_number values) _ (and_parts (is_name dest) _ h).1 in
+    let r = and_parts (is_read_operand index) _ q.0 in
+    and_from _ _ q.1 (and_from _ _ (operand_fit index r.0) r.1)
+kind_fit cycle (kind.SetPwm name hz) ne l h = hertz_fit hz (and_parts (is_name name) _ h).1
 kind_fit cycle _ ne l h = refl
 
 fit_by : (cycle : ℕ) (ls : List element.Leaf) → cycle ≢ 0 → none_long cycle ls ≡ true → list_all (λ l. is_read_kind l.kind) ls ≡ true → all_fit cycle ls ≡ true
 fit_by cycle [] ne l h = refl
 fit_by cycle (x ∷ xs) ne l h =
-    let f = parts (not (is_long cycle x.kind)) _ l in
-    let g = parts (is_read_kind x.kind) _ h in
-    both _ _ (kind_fit cycle x.kind ne f.0 g.0) (fit_by cycle xs ne f.1 g.1)
+    let f = and_parts (not (is_long cycle x.kind)) _ l in
+    let g = and_parts (is_read_kind x.kind) _ h in
+    and_from _ _ (kind_fit cycle x.kind ne f.0 g.0) (fit_by cycle xs ne f.1 g.1)
 
 pub fits_all : (p : Project) → rule p ≡ None → list_all (λ l. is_read_kind l.kind) (all_leaves p.rungs) ≡ true → all_fit p.cycle (all_leaves p.rungs) ≡ true
 fits_all p e h =

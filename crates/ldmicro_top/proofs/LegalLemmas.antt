@@ -1,5 +1,6 @@
 -- What a project that is read and keeps the rules promises to the steps behind.
 use Rattle.std.proofs.Common.{◌≡◌, ℕ, ◌+◌, ◌*◌, ◌≤◌, Bool, true, false, ◌&&◌, nat_le, List, [], ◌∷◌, length, map, None, All, refl, sym, ap, ◌∙◌, arith, length-append}
+use Rattle.std.proofs.lemmas.Bool.{and_parts}
 use Rattle.std.proofs.lemmas.Bool.Decides.{nat_tests}
 use Rattle.std.proofs.lemmas.List.Elements.{All-nil, All-cons}
 use Rattle.std.proofs.lemmas.List.Sums.{sum_by-cons}
@@ -27,10 +28,6 @@ use Rattle.ladder_rules.specs.Limits.{IsShort, IsWithinLimits, extent, most_exte
 use Rattle.ld_line.specs.Range.{is_read_kind}
 use Rattle.ld_text.specs.Within.{IsWithin}
 
-both_true : (a b : Bool) → (a && b) ≡ true → (a ≡ true) × (b ≡ true)
-both_true true b h = (refl, h)
-both_true false b h = absurd cc
-
 kind_named : (k : LeafKind) → has_kind k ≡ true → is_read_kind k ≡ true → is_well_named k ≡ true
 kind_named (kind.Contacts name neg) h g = rw (h, g) refl
 kind_named (kind.Coil name mode) h g = rw (h, g) refl
@@ -39,8 +36,8 @@ kind_named _ h g = refl
 named_by : (ls : List leaf.Leaf) → list_all (λ l. has_kind l.kind) ls ≡ true → list_all (λ l. is_read_kind l.kind) ls ≡ true → all_well_named ls ≡ true
 named_by [] h g = refl
 named_by (l ∷ ls) h g =
-    let a = both_true (has_kind l.kind) _ h in
-    let b = both_true (is_read_kind l.kind) _ g in
+    let a = and_parts (has_kind l.kind) _ h in
+    let b = and_parts (is_read_kind l.kind) _ g in
     rw (kind_named l.kind a.0 b.0) (named_by ls a.1 b.1)
 
 -- names that are names, and of their elements' kinds
@@ -109,16 +106,16 @@ small : (n : ℕ) → nat_le n most_extent ≡ true → n ≤ most_extent
 small n h = grind (arith, nat_tests)
 
 short_kind : (k : LeafKind) → is_read_kind k ≡ true → extent k ≤ most_extent
-short_kind (kind.Shift name places) h = let a = both_true (is_name name) _ h in let b = both_true (nat_le 1 places) _ a.1 in small places b.1
+short_kind (kind.Shift name places) h = let a = and_parts (is_name name) _ h in let b = and_parts (nat_le 1 places) _ a.1 in small places b.1
 short_kind (kind.Table dest index as_text values) h =
-    let a = both_true (is_name dest) _ h in let b = both_true _ (nat_le (length values) TABLE_VALUES) a.1 in small (length values) b.1
+    let a = and_parts (is_name dest) _ h in let b = and_parts _ (nat_le (length values) TABLE_VALUES) a.1 in small (length values) b.1
 short_kind (kind.Linear dest index points) h = absurd cc
 short_kind (kind.Formatted name text) h = absurd cc
 short_kind _ h = omega arith
 
 all_short : (ls : List leaf.Leaf) → list_all (λ l. is_read_kind l.kind) ls ≡ true → All IsShort ls
 all_short [] h = All-nil IsShort
-all_short (l ∷ ls) h = let a = both_true (is_read_kind l.kind) _ h in All-cons IsShort l ls (short_kind l.kind a.0) (all_short ls a.1)
+all_short (l ∷ ls) h = let a = and_parts (is_read_kind l.kind) _ h in All-cons IsShort l ls (short_kind l.kind a.0) (all_short ls a.1)
 
 pub within_limits : (p : Project) → IsWithin p → IsWithinLimits p.rungs
 within_limits p w = record { rungs = w.rungs; elements = w.elements; forms = w.forms; extents = all_short (all_leaves p.rungs) w.read }

@@ -1,5 +1,6 @@
 -- The text of a lowered project is far shorter than a text may be.
 use Rattle.std.proofs.Common.{◌≡◌, ℕ, ◌+◌, ◌*◌, ◌≤◌, ℤ, Bool, true, false, not, ◌&&◌, nat_le, List, [], ◌∷◌, ◌++◌, length, map, refl, ap, arith, codes, decimal, All, length-append, lit<}
+use Rattle.std.proofs.lemmas.Bool.{and_parts}
 use Rattle.std.proofs.lemmas.Bool.Decides.{nat_tests}
 use Rattle.std.proofs.lemmas.Fmt.{length-decimal-le}
 use Rattle.std.proofs.lemmas.List.Elements.{All-nil, All-cons, All-head, All-tail}
@@ -12,6 +13,7 @@ use Rattle.ladder_tree.specs.declared.names.Names.{Names}
 use Rattle.ladder_tree.specs.declared.project.Project.{Project}
 use Rattle.ladder_tree.specs.Names.{is_name_byte, is_name_within}
 use Rattle.texts.specs.Digits.{is_digit}
+use Rattle.texts.specs.declared.limits.TheConstants.{CODE_BYTES}
 use Rattle.int_code.specs.declared.op.IntProgram.{IntProgram}
 use Rattle.int_code.specs.Text.{op_words}
 use Rattle.int_code.specs.WellFormed.{sizes_of}
@@ -39,20 +41,12 @@ name_short : (name : List ℕ) → is_name_within 66 name ≡ true → length na
 name_short [] h = omega arith
 name_short (b ∷ bs) h = within (length (b ∷ bs)) (last_of (not (is_digit b)) (list_all is_name_byte (b ∷ bs)) (nat_le (length (b ∷ bs)) 66) h)
 
-first_true : (a b : Bool) → a && b ≡ true → a ≡ true
-first_true true b h = refl
-first_true false b h = cc
-
-second_true : (a b : Bool) → a && b ≡ true → b ≡ true
-second_true true b h = h
-second_true false b h = cc
-
 names_short : (word : List ℕ) (names : List (List ℕ)) → length word ≤ 8 → list_all (is_name_within 66) names ≡ true
     → length (joined (map (λ n. word ++ n) names)) ≤ 75 * length names
 names_short word [] w h = omega arith
 names_short word (n ∷ ns) w h =
-    let one = name_short n (first_true (is_name_within 66 n) _ h) in
-    let more = names_short word ns w (second_true (is_name_within 66 n) _ h) in
+    let one = name_short n (and_parts (is_name_within 66 n) _ h).0 in
+    let more = names_short word ns w (and_parts (is_name_within 66 n) _ h).1 in
     omega (arith, length-append word n, length-append (word ++ n) (10 ∷ joined (map (λ n. word ++ n) ns)))
 
 -- a line more for each variable
@@ -61,9 +55,9 @@ variables_short : (names : List (List ℕ)) (starts : List ℤ) → list_all (is
 variables_short [] starts h n = omega arith
 variables_short (name ∷ names) [] h n = omega arith
 variables_short (name ∷ names) (z ∷ zs) h n =
-    let one = name_short name (first_true (is_name_within 66 name) _ h) in
+    let one = name_short name (and_parts (is_name_within 66 name) _ h).0 in
     let digits = signed_short z (All-head IsNumber z zs n) in
-    let more = variables_short names zs (second_true (is_name_within 66 name) _ h) (All-tail IsNumber z zs n) in
+    let more = variables_short names zs (and_parts (is_name_within 66 name) _ h).1 (All-tail IsNumber z zs n) in
     let rest = joined (map line_text (variables names zs)) in
     omega (
       arith,
@@ -108,7 +102,7 @@ module _ (a b c d e f g h i : List ℕ) where
 
 pub text_short : (q : Project) (names : Names) (program : IntProgram) → IsWritable q.cycle names program → IsSmall names → Few names → HasRoom program
     → AllHoldNumbers program.ops → HasSizes names q program → all_fit q.cycle (all_leaves q.rungs) ≡ true
-    → length (interp_text q.cycle names program) ≤ 67108864
+    → length (interp_text q.cycle names program) ≤ CODE_BYTES
 text_short q names program w small few room numbers sizes fit =
     let s = w.sound in
     let short : AreShort (sizes_of program) = record {

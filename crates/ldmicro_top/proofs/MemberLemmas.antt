@@ -1,5 +1,6 @@
 -- Which names stand in a project's lists.
 use Rattle.std.proofs.Common.{◌≡◌, ℕ, Bool, true, false, ◌||◌, ◌&&◌, cond, List, [], ◌∷◌, ◌++◌, refl, sym, subst}
+use Rattle.std.proofs.lemmas.Bool.{and_from, and_parts, or_left, or_right}
 use Rattle.std.proofs.lemmas.Slice.Eq.{bytes_eq-Decides}
 use Rattle.std.specs.List.{list_any, list_all}
 use Rattle.std.specs.Str.{bytes_eq}
@@ -21,13 +22,6 @@ same_name n = (bytes_eq-Decides n n).1 refl
 either : (a b c : Bool) → (a || b) ≡ true → (a ≡ true → c ≡ true) → (b ≡ true → c ≡ true) → c ≡ true
 either true b c e f g = f refl
 either false b c e f g = g e
-
-or_left : (a b : Bool) → a ≡ true → (a || b) ≡ true
-or_left a b e = rw e refl
-
-or_right : (a b : Bool) → b ≡ true → (a || b) ≡ true
-or_right true b e = refl
-or_right false b e = e
 
 front : (n : List ℕ) (a b : List (List ℕ)) → member n a ≡ true → member n (a ++ b) ≡ true
 front n [] b h = absurd cc
@@ -63,25 +57,14 @@ found n seen (x ∷ ns) h =
 pub in_firsts : (n : List ℕ) (ns : List (List ℕ)) → member n ns ≡ true → member n (firsts ns) ≡ true
 in_firsts n ns h = found n [] ns h
 
-both : (a b : Bool) → a ≡ true → b ≡ true → (a && b) ≡ true
-both a b e f = rw (e, f) refl
-
-first_true : (a b : Bool) → (a && b) ≡ true → a ≡ true
-first_true true b h = refl
-first_true false b h = cc
-
-second_true : (a b : Bool) → (a && b) ≡ true → b ≡ true
-second_true true b h = h
-second_true false b h = cc
-
 -- a larger list has them too
 wider : (a b names : List (List ℕ)) → ((n : List ℕ) → member n a ≡ true → member n b ≡ true) → are_members a names ≡ true → are_members b names ≡ true
 wider a b [] f h = refl
-wider a b (n ∷ names) f h = both _ _ (f n (first_true _ _ h)) (wider a b names f (second_true _ _ h))
+wider a b (n ∷ names) f h = and_from _ _ (f n (and_parts _ _ h).0) (wider a b names f (and_parts _ _ h).1)
 
 joined : (list a b : List (List ℕ)) → are_members list a ≡ true → are_members list b ≡ true → are_members list (a ++ b) ≡ true
 joined list [] b f g = g
-joined list (x ∷ a) b f g = both _ _ (first_true _ _ f) (joined list a b (second_true _ _ f) g)
+joined list (x ∷ a) b f g = and_from _ _ (and_parts _ _ f).0 (joined list a b (and_parts _ _ f).1 g)
 
 analog_in : (k : LeafKind) → are_members (variable_names k) (analog_names k) ≡ true
 analog_in (kind.ReadAdc name) = rw (same_name name) refl
@@ -107,9 +90,9 @@ first_by list seen x ns false h k = k
 firsts_within : (list seen ns : List (List ℕ)) → are_members list seen ≡ true → are_members list ns ≡ true → are_members list (firsts_from seen ns) ≡ true
 firsts_within list seen [] h k = h
 firsts_within list seen (x ∷ ns) h k =
-    let rest = second_true _ _ k in
+    let rest = (and_parts _ _ k).1 in
     first_by list seen x ns (member x seen) (firsts_within list seen ns h rest)
-    (firsts_within list (seen ++ x ∷ []) ns (joined list seen (x ∷ []) h (both _ _ (first_true _ _ k) refl)) rest)
+    (firsts_within list (seen ++ x ∷ []) ns (joined list seen (x ∷ []) h (and_from _ _ (and_parts _ _ k).0 refl)) rest)
 
 of_firsts : (vs ns : List (List ℕ)) → are_members vs ns ≡ true → are_members (firsts vs) (firsts ns) ≡ true
 of_firsts vs ns h = firsts_within (firsts vs) [] ns refl (wider vs (firsts vs) ns (λ n e. in_firsts n vs e) h)

@@ -1,5 +1,6 @@
 -- The names of a project have a text: each is a name, and none stands twice in a list.
 use Rattle.std.proofs.Common.{◌≡◌, ℕ, ◌≤◌, Bool, true, false, not, ◌&&◌, cond, nat_le, List, [], ◌∷◌, ◌++◌, length, filter, refl, sym, ap, ◌∙◌, arith, subst, append_assoc, append-nil}
+use Rattle.std.proofs.lemmas.Bool.{and_from, and_parts}
 use Rattle.std.proofs.lemmas.Bool.Decides.{nat_tests}
 use Rattle.std.specs.List.{list_any, list_all}
 use Rattle.std.specs.Str.{bytes_eq}
@@ -49,29 +50,18 @@ firsts_differ_from seen (n ∷ ns) h =
 pub firsts_differ : (ns : List (List ℕ)) → all_differ (firsts ns) ≡ true
 firsts_differ ns = firsts_differ_from [] ns refl
 
-both_true : (a b : Bool) → a ≡ true → b ≡ true → a && b ≡ true
-both_true a b e f = rw (e, f) refl
-
-first_true : (a b : Bool) → a && b ≡ true → a ≡ true
-first_true true b h = refl
-first_true false b h = cc
-
-second_true : (a b : Bool) → a && b ≡ true → b ≡ true
-second_true true b h = h
-second_true false b h = cc
-
 module _ (P : List ℕ → Bool) where
   all_append : (xs ys : List (List ℕ)) → list_all P xs ≡ true → list_all P ys ≡ true → list_all P (xs ++ ys) ≡ true
   all_append [] ys h k = k
-  all_append (x ∷ xs) ys h k = both_true (P x) _ (first_true (P x) _ h) (all_append xs ys (second_true (P x) _ h) k)
+  all_append (x ∷ xs) ys h k = and_from (P x) _ (and_parts (P x) _ h).0 (all_append xs ys (and_parts (P x) _ h).1 k)
 
   filter_by : (b : Bool) (x : List ℕ) (xs : List (List ℕ)) → P x ≡ true → list_all P xs ≡ true → list_all P (cond b (x ∷ xs) xs) ≡ true
-  filter_by true x xs h k = both_true (P x) _ h k
+  filter_by true x xs h k = and_from (P x) _ h k
   filter_by false x xs h k = k
 
   all_filter : (Q : List ℕ → Bool) (xs : List (List ℕ)) → list_all P xs ≡ true → list_all P (filter Q xs) ≡ true
   all_filter Q [] h = refl
-  all_filter Q (x ∷ xs) h = filter_by (Q x) x (filter Q xs) (first_true (P x) _ h) (all_filter Q xs (second_true (P x) _ h))
+  all_filter Q (x ∷ xs) h = filter_by (Q x) x (filter Q xs) (and_parts (P x) _ h).0 (all_filter Q xs (and_parts (P x) _ h).1)
 
   all_by : (b : Bool) (xs ys : List (List ℕ)) → list_all P xs ≡ true → list_all P ys ≡ true → list_all P (cond b xs ys) ≡ true
   all_by true xs ys h k = h
@@ -80,14 +70,14 @@ module _ (P : List ℕ → Bool) where
   all_firsts_from : (seen ns : List (List ℕ)) → list_all P seen ≡ true → list_all P ns ≡ true → list_all P (firsts_from seen ns) ≡ true
   all_firsts_from seen [] h k = h
   all_firsts_from seen (n ∷ ns) h k =
-      all_by (list_any (bytes_eq n) seen) _ _ (all_firsts_from seen ns h (second_true (P n) _ k))
-      (all_firsts_from (seen ++ n ∷ []) ns (all_append seen (n ∷ []) h (both_true (P n) true (first_true (P n) _ k) refl)) (second_true (P n) _ k))
+      all_by (list_any (bytes_eq n) seen) _ _ (all_firsts_from seen ns h (and_parts (P n) _ k).1)
+      (all_firsts_from (seen ++ n ∷ []) ns (all_append seen (n ∷ []) h (and_from (P n) true (and_parts (P n) _ k).0 refl)) (and_parts (P n) _ k).1)
 
 bits_named : (ls : List leaf.Leaf) → all_well_named ls ≡ true → list_all is_name (all_bits ls) ≡ true
 bits_named [] h = refl
 bits_named (l ∷ ls) h =
-    all_append is_name (bit_names l.kind) (all_bits ls) (second_true (has_kind l.kind) _ (first_true (is_well_named l.kind) _ h))
-    (bits_named ls (second_true (is_well_named l.kind) _ h))
+    all_append is_name (bit_names l.kind) (all_bits ls) (and_parts (has_kind l.kind) _ (and_parts (is_well_named l.kind) _ h).0).1
+    (bits_named ls (and_parts (is_well_named l.kind) _ h).1)
 
 pub listed_named : (is_kind : List ℕ → Bool) (ls : List leaf.Leaf) → all_well_named ls ≡ true → list_all is_name (firsts (appearances is_kind ls)) ≡ true
 listed_named is_kind ls h = all_firsts_from is_name [] (appearances is_kind ls) refl (all_filter is_name is_kind (all_bits ls) (bits_named ls h))
@@ -109,7 +99,7 @@ within_66 (b ∷ bs) h =
 
 all_within : (names : List (List ℕ)) → list_all is_name names ≡ true → list_all (is_name_within 66) names ≡ true
 all_within [] h = refl
-all_within (n ∷ ns) h = both_true (is_name_within 66 n) _ (within_66 n (first_true (is_name n) _ h)) (all_within ns (second_true (is_name n) _ h))
+all_within (n ∷ ns) h = and_from (is_name_within 66 n) _ (within_66 n (and_parts (is_name n) _ h).0) (all_within ns (and_parts (is_name n) _ h).1)
 
 firsts_within : (names : List (List ℕ)) → list_all (is_name_within 66) names ≡ true → list_all (is_name_within 66) (firsts names) ≡ true
 firsts_within names h = all_firsts_from (is_name_within 66) [] names refl h

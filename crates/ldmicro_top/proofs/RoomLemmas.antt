@@ -3,6 +3,7 @@ use Rattle.std.proofs.Common.{◌≡◌, ℕ, ◌≤◌, Bool, true, false, cond
 use Rattle.std.proofs.lemmas.Bool.Decides.{nat_tests}
 use Rattle.std.specs.Option.{option_map}
 use Rattle.chip_tables.specs.Memory.{ram_size, eeprom_size}
+use Rattle.chip_tables.specs.declared.memory.TheConstants.{EEPROM_MOST}
 use Rattle.chip_tables.specs.declared.target.Target.{Target}
 use Rattle.chip_tables.specs.declared.target.Target.TheVariants.{F628, F877, Mega16, Interp, AnsiC}
 use Rattle.ladder_tree.specs.declared.names.Names.{Names}
@@ -31,7 +32,7 @@ ram_most Mega16 = omega arith
 ram_most Interp = omega arith
 ram_most AnsiC = omega arith
 
-eeprom_most : (t : Target) → eeprom_size t ≤ 512
+eeprom_most : (t : Target) → eeprom_size t ≤ EEPROM_MOST
 eeprom_most F628 = omega arith
 eeprom_most F877 = omega arith
 eeprom_most Mega16 = omega arith
