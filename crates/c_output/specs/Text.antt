@@ -3,6 +3,7 @@ use Rattle.std.specs.Prelude.{ℕ, List, [], ◌∷◌, ◌++◌, ℤ, codes, ma
 use Rattle.std.specs.Fmt.{signed_decimal}
 use Rattle.ladder_tree.specs.Leaves.{all_leaves}
 use Rattle.ladder_tree.specs.Names.{names_of}
+use Rattle.ladder_tree.specs.declared.limits.TheConstants.{DEPTH}
 use Rattle.ladder_tree.specs.declared.names.Names.{Names}
 use Rattle.ladder_tree.specs.declared.project.Project.{Project}
 use Rattle.ladder_tree.specs.declared.project.Rung.{Rung}
@@ -20,7 +21,7 @@ hooks_text =
 
 -- at the head the cycle time, and behind the hooks the inputs and outputs of PARALLELs
 abbrev pub head_text : ℕ → List ℕ
-head_text cycle = numbered (codes "/* LDmicro C, cycle # us */\n") cycle ++ (hooks_text ++ each_number (codes "static int i_#, o_#;\n") 16)
+head_text cycle = numbered (codes "/* LDmicro C, cycle # us */\n") cycle ++ (hooks_text ++ each_number (codes "static int i_#, o_#;\n") DEPTH)
 
 -- each variable with its start value
 abbrev pub variables_text : List (List ℕ) → List ℤ → List ℕ

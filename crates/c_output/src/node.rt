@@ -1,6 +1,7 @@
 //! The C text of nodes. A node finds its input in `f`, and leaves its output there.
 
 ghost use Rattle.std.specs.Prelude.{◌≡◌, ◌≢◌, ◌+◌, ◌≤◌, ◌<◌, ◌^◌, ◌++◌, IfOk, OnOk};
+ghost use Rattle.ladder_tree.specs.declared.limits.TheConstants.{DEPTH};
 ghost use Rattle.ladder_tree.specs.Leaves.{depth_of, depth_in};
 ghost use Rattle.ladder_lower.specs.Wires.{Fits};
 ghost use Rattle.c_output.specs.Laid.{terms_of};
@@ -25,7 +26,7 @@ fn push_node(
 ) -> Result<usize, AllocError>
     requires fits { Fits layout.now 0 }
     requires cycle { layout.now.cycle ≢ 0 }
-    requires depth { depth + depth_of node.now ≤ 16 }
+    requires depth { depth + depth_of node.now ≤ DEPTH }
     requires room { memory + (part (terms_of layout.now) node.now).memories < 2 ^ 32 }
     ensures text { OnOk result (text.new.items ≡ text.old.items ++ (part (terms_of layout.now) node.now).text depth memory) }
     ensures memories { IfOk result (λ k. k ≡ memory + (part (terms_of layout.now) node.now).memories) }
@@ -54,7 +55,7 @@ pub fn push_series(
 ) -> Result<usize, AllocError>
     requires fits { Fits layout.now 0 }
     requires cycle { layout.now.cycle ≢ 0 }
-    requires depth { depth + depth_in nodes.now ≤ 16 }
+    requires depth { depth + depth_in nodes.now ≤ DEPTH }
     requires room { memory + (series_of (terms_of layout.now) nodes.now).memories < 2 ^ 32 }
     ensures text { OnOk result (text.new.items ≡ text.old.items ++ (series_of (terms_of layout.now) nodes.now).text depth memory) }
     ensures memories { IfOk result (λ k. k ≡ memory + (series_of (terms_of layout.now) nodes.now).memories) }
@@ -78,7 +79,7 @@ fn push_parallel(
 ) -> Result<usize, AllocError>
     requires fits { Fits layout.now 0 }
     requires cycle { layout.now.cycle ≢ 0 }
-    requires depth { depth + depth_in nodes.now < 16 }
+    requires depth { depth + depth_in nodes.now < DEPTH }
     requires room { memory + (parallel_of (terms_of layout.now) nodes.now).memories < 2 ^ 32 }
     ensures text { OnOk result (text.new.items ≡ text.old.items ++ (parallel_of (terms_of layout.now) nodes.now).text depth memory) }
     ensures memories { IfOk result (λ k. k ≡ memory + (parallel_of (terms_of layout.now) nodes.now).memories) }
@@ -101,7 +102,7 @@ fn push_branches(
 ) -> Result<usize, AllocError>
     requires fits { Fits layout.now 0 }
     requires cycle { layout.now.cycle ≢ 0 }
-    requires depth { depth + depth_in nodes.now < 16 }
+    requires depth { depth + depth_in nodes.now < DEPTH }
     requires room { memory + (branches_of (terms_of layout.now) nodes.now).memories < 2 ^ 32 }
     ensures text { OnOk result (text.new.items ≡ text.old.items ++ (branches_of (terms_of layout.now) nodes.now).text depth memory) }
     ensures memories { IfOk result (λ k. k ≡ memory + (branches_of (terms_of layout.now) nodes.now).memories) }

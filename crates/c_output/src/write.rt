@@ -2,6 +2,7 @@
 
 ghost use Rattle.std.specs.Prelude.{◌≡◌, ◌≢◌, ◌≤◌, ◌<◌, ◌^◌, [], ◌++◌, length, codes, IfOk, OnOk};
 ghost use Rattle.std.specs.Fmt.{signed_decimal};
+ghost use Rattle.ladder_tree.specs.declared.limits.TheConstants.{DEPTH};
 ghost use Rattle.ladder_tree.specs.Leaves.{depth_of_all};
 ghost use Rattle.ladder_lower.specs.Outcome.{CanLower};
 ghost use Rattle.ladder_lower.specs.Wires.{Fits};
@@ -15,6 +16,7 @@ use crate::node::push_series;
 use ladder_lower::layout::Layout;
 use ladder_lower::starts::start_values;
 use ladder_tree::element::Name;
+use ladder_tree::limits::DEPTH;
 use ladder_tree::names::Names;
 use ladder_tree::project::{Project, Rung};
 use ld_base::list::List;
@@ -57,7 +59,7 @@ fn push_head(alloc: Global, text: &mut Vec<u8>, cycle: u32) -> Result<(), AllocE
 {
     push_numbered(alloc, text, "/* LDmicro C, cycle # us */\n", cycle as usize)?;
     push_hooks(text)?;
-    push_each_number(alloc, text, "static int i_#, o_#;\n", 16)
+    push_each_number(alloc, text, "static int i_#, o_#;\n", DEPTH as usize)
 }
 
 fn push_hooks(text: &mut Vec<u8>) -> Result<(), AllocError>
@@ -144,7 +146,7 @@ fn push_cycle(
 ) -> Result<(), AllocError>
     requires fits { Fits layout.now 0 }
     requires cycle { layout.now.cycle ≢ 0 }
-    requires depth { depth_of_all rungs.now ≤ 16 }
+    requires depth { depth_of_all rungs.now ≤ DEPTH }
     requires room { memories_of (terms_of layout.now) rungs.now < 2 ^ 32 }
     ensures { OnOk result (text.new.items ≡ text.old.items ++ cycle_text (terms_of layout.now) names.now rungs.now) }
 {
@@ -166,7 +168,7 @@ fn push_rungs(
 ) -> Result<(), AllocError>
     requires fits { Fits layout.now 0 }
     requires cycle { layout.now.cycle ≢ 0 }
-    requires depth { depth_of_all rungs.now ≤ 16 }
+    requires depth { depth_of_all rungs.now ≤ DEPTH }
     requires room { memories_of (terms_of layout.now) rungs.now < 2 ^ 32 }
     ensures { OnOk result (text.new.items ≡ text.old.items ++ rungs_text (terms_of layout.now) rungs.now 0) }
 {

@@ -1,7 +1,7 @@
 -- When a program's operations nest, and its numbers are in range.
 use Rattle.std.specs.Prelude.{◌≡◌, ℕ, ◌<◌, ◌≤◌, Bool, true, false, not, ◌&&◌, List, [], ◌∷◌, length, All}
 use Rattle.int_code.specs.Shapes.{shape_of}
-use Rattle.int_code.specs.declared.limits.TheConstants.{MOST_VALUES}
+use Rattle.ladder_tree.specs.declared.limits.TheConstants.{TABLE_VALUES}
 use Rattle.int_code.specs.declared.op.BitDest.{BitDest}
 use Rattle.int_code.specs.declared.op.BitDest.TheVariants as dest
 use Rattle.int_code.specs.declared.op.BitSource.{BitSource}
@@ -40,7 +40,7 @@ pub record Sizes : Type 0 where
 
 -- how many values a table may have
 abbrev pub most_values : ℕ
-most_values = MOST_VALUES
+most_values = TABLE_VALUES
 
 abbrev pub IsDest : Sizes → BitDest → Type 0
 IsDest n (dest.B k) = k < n.bits
@@ -85,7 +85,7 @@ IsInRange n (Tx w s b) = IsNumSource n w × IsSource n s × IsDest n b
 IsInRange n (Eebusy b) = IsDest n b
 IsInRange n (Eerd v a) = (v < n.variables) × (a < n.persistent)
 IsInRange n (Eewr w a) = IsNumSource n w × (a < n.persistent)
-IsInRange n (Tab v w values) = (v < n.variables) × IsNumSource n w × (length values ≤ MOST_VALUES)
+IsInRange n (Tab v w values) = (v < n.variables) × IsNumSource n w × (length values ≤ TABLE_VALUES)
 
 abbrev pub sizes_of : IntProgram → Sizes
 sizes_of p = record { bits = p.bits; outputs = p.outputs; inputs = p.inputs; analogs = p.analogs; variables = p.variables; persistent = p.persistent }

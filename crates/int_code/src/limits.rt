@@ -6,9 +6,6 @@ pub const MOST_OPERATIONS: usize = 1_000_000;
 /// How many of them look up a value in a table.
 pub const MOST_TABLES: usize = 40_000;
 
-/// How many values a table has at most.
-pub const MOST_VALUES: usize = 60;
-
 /// How many bits a program has at most.
 pub const MOST_BITS: u32 = 100_000;
 

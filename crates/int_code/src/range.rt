@@ -4,8 +4,8 @@ ghost use Rattle.std.specs.Prelude.{◌↔◌, ◌<◌, IsTrue};
 ghost use Rattle.int_code.specs.Held.{counted};
 ghost use Rattle.int_code.specs.WellFormed.{IsDest, IsSource, IsNumSource, IsComputed, IsInRange};
 
-use crate::limits::MOST_VALUES;
 use crate::op::{BitDest, BitSource, IntOp, NumSource};
+use ladder_tree::limits::TABLE_VALUES;
 
 /// How many there are of what operations name by numbers.
 #[derive(Clone, Copy)]
@@ -86,7 +86,7 @@ pub fn is_in_range(n: Counts, op: &IntOp) -> bool
         IntOp::Ifee { v, a } | IntOp::Eerd { v, a } => is_variable(n, *v) && is_persistent(n, *a),
         IntOp::Eewr { w, a } => is_number(n, *w) && is_persistent(n, *a),
         IntOp::Tab { v, w, values } => {
-            is_variable(n, *v) && is_number(n, *w) && values.len() <= MOST_VALUES
+            is_variable(n, *v) && is_number(n, *w) && values.len() <= TABLE_VALUES as usize
         }
     }
 }

@@ -9,8 +9,8 @@ ghost use Rattle.int_code.specs.WellFormed.{most_values};
 use crate::word::{
     dest_of, index, integer, is_word, number_of, number_to, source_of, values_of, variable_of,
 };
-use int_code::limits::MOST_VALUES;
 use int_code::op::{BitDest, BitSource, IntOp, NumSource};
+use ladder_tree::limits::TABLE_VALUES;
 use std::alloc::{AllocError, Global};
 
 /// An operation of one word.
@@ -315,8 +315,7 @@ fn table(
 fn table_head(a: &[u8], b: &[u8], count: &[u8]) -> Option<(u32, NumSource, u32)>
     ensures { result ≡ all_three (spec.variable_of a.now) (spec.number_of b.now) (spec.number_to most_values count.now) }
 {
-    let most = MOST_VALUES as u32;
-    match (variable_of(a), number_of(b), number_to(most, count)) {
+    match (variable_of(a), number_of(b), number_to(TABLE_VALUES, count)) {
         (Some(v), Some(w), Some(count)) => Some((v, w, count)),
         _ => None,
     }

@@ -10,6 +10,7 @@ use Rattle.std.specs.List.{list_any, position, position_or_len}
 use Rattle.std.specs.Option.{unwrap_or}
 use Rattle.std.specs.Prelude.{slice_index_or, Some, None, nat_lt}
 use Rattle.std.specs.Str.{bytes_eq}
+use Rattle.texts.proofs.KeyLemmas.{texts, among, texts-push}
 use Rattle.ladder_meaning.specs.State.{place_of}
 use Rattle.ladder_lower.specs.Apart.{Apart}
 use Rattle.ladder_lower.proofs.Stands.{held}
@@ -54,18 +55,6 @@ held_get [] k lt = absurd (omega arith)
 held_get (x ∷ xs) zero lt = rw (bytes_same x) refl
 held_get (x ∷ xs) (suc k) lt = rw (held_get xs k (omega arith)) grind arith
 
--- the texts of keys
-abbrev pub texts : List (Bor (List ℕ)) → List (List ℕ)
-texts ks = map (λ k. k.now) ks
-
-among : (x : List ℕ) (ks : List (Bor (List ℕ))) → list_any (λ k. bytes_eq x k.now) ks ≡ list_any (bytes_eq x) (texts ks)
-among x [] = refl
-among x (k ∷ ks) = ap (λ b. bytes_eq x k.now || b) (among x ks)
-
-texts_push : (ks : List (Bor (List ℕ))) (k : Bor (List ℕ)) → texts (ks ++ k ∷ []) ≡ texts ks ++ k.now ∷ []
-texts_push [] k = refl
-texts_push (x ∷ ks) k = ap (λ l. x.now ∷ l) (texts_push ks k)
-
 -- of names that are apart, each is new behind those before it
 fresh : (xs : List (List ℕ)) (i : ℕ) (name : List ℕ) → Apart xs → i < length xs → name ≡ slice_index_or xs i [] → list_any (bytes_eq name) (take i xs) ≡ false
 fresh [] i name a lt is = absurd (omega arith)
@@ -84,8 +73,8 @@ is_get (x ∷ xs) (suc i) name lt is = is_get xs i name (omega arith) is
 pub place_step : (xs : List (List ℕ)) (i : ℕ) (name : List ℕ) (ks : List (Bor (List ℕ))) (k : Bor (List ℕ)) → Apart xs → i < length xs → name ≡ get_or xs i name
     → k.now ≡ name → texts ks ≡ take i xs → texts (cond (list_any (λ x. bytes_eq k.now x.now) ks) ks (ks ++ k ∷ [])) ≡ take (i + 1) xs
 place_step xs i name ks k a lt is same e =
-    let new : list_any (λ x. bytes_eq k.now x.now) ks ≡ false = among k.now ks ∙ rw (same, e) (fresh xs i name a lt (is_get xs i name lt is)) in
-    rw (new, texts_push ks k, e, same) (ap (λ n. take i xs ++ n ∷ []) is ∙ sym (take_more xs i name lt))
+    let new : list_any (λ x. bytes_eq k.now x.now) ks ≡ false = sym (among k.now ks) ∙ rw (same, e) (fresh xs i name a lt (is_get xs i name lt is)) in
+    rw (new, texts-push ks k, e, same) (ap (λ n. take i xs ++ n ∷ []) is ∙ sym (take_more xs i name lt))
 
 place_most : (xs : List (List ℕ)) (name : List ℕ) → place_of xs name ≤ length xs
 place_most [] name = omega arith

@@ -5,6 +5,7 @@ use Rattle.std.specs.Str.{bytes_eq}
 use Rattle.texts.specs.Digits.{digits_to}
 use Rattle.texts.specs.Lines.{cut}
 use Rattle.texts.specs.Keys.{with_key}
+use Rattle.ladder_tree.specs.declared.limits.TheConstants.{ANALOG_NUMBER}
 use Rattle.ladder_tree.specs.declared.names.Names.{Names}
 use Rattle.ladder_meaning.specs.declared.reading.Reading.{Reading}
 
@@ -22,7 +23,7 @@ place_in names key = place_from 0 names key
 
 -- the greatest number of an analog input
 abbrev pub most_analog : ℕ
-most_analog = 1023
+most_analog = ANALOG_NUMBER
 
 -- an input has 0 or 1
 abbrev pub give_input : ℕ → List ℕ → Reading → Option Reading

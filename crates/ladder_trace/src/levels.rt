@@ -6,13 +6,11 @@ ghost use Rattle.texts.specs.Keys.{Takes};
 ghost use Rattle.ladder_trace.specs.Held.{reading};
 
 use ladder_meaning::reading::Reading;
+use ladder_tree::limits::ANALOG_NUMBER;
 use ladder_tree::names::Names;
 use ld_base::list::List;
 use std::alloc::{AllocError, Global};
 use texts::digits::digits_to;
-
-/// The greatest number of an analog input.
-const MOST_ANALOG: u32 = 1023;
 
 /// What inputs and devices have in a step, by the order of the project's names.
 #[derive(Drop)]
@@ -85,7 +83,7 @@ impl Levels {
         ensures inputs { length self.new.inputs.items ≡ length self.old.inputs.items }
         ensures analog { length self.new.analog.items ≡ length self.old.analog.items }
     {
-        match digits_to(MOST_ANALOG, value) {
+        match digits_to(ANALOG_NUMBER, value) {
             None => false,
             Some(number) => {
                 self.analog[place] = number as i16;

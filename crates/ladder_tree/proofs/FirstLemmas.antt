@@ -2,23 +2,13 @@
 use Rattle.std.proofs.Common.{◌≡◌, ℕ, ◌+◌, ◌<◌, Bool, true, false, cond, ◌||◌, List, [], ◌∷◌, ◌++◌, length, get_or, drop, map, Bor, refl, sym, ap, ◌∙◌, add-one, drop-cons}
 use Rattle.std.specs.List.{list_any}
 use Rattle.std.specs.Str.{bytes_eq}
+use Rattle.texts.proofs.KeyLemmas.{texts, among, texts-push}
 use Rattle.ladder_tree.specs.Names.{firsts_from}
-
-abbrev pub texts : List (Bor (List ℕ)) → List (List ℕ)
-texts ks = map (λ k. k.now) ks
-
-among : (x : List ℕ) (ks : List (Bor (List ℕ))) → list_any (bytes_eq x) (texts ks) ≡ list_any (λ k. bytes_eq x k.now) ks
-among x [] = refl
-among x (k ∷ ks) = ap (λ b. bytes_eq x k.now || b) (among x ks)
-
-texts-append : (ks : List (Bor (List ℕ))) (k : Bor (List ℕ)) → texts (ks ++ k ∷ []) ≡ texts ks ++ k.now ∷ []
-texts-append [] k = refl
-texts-append (x ∷ ks) k = ap (λ l. x.now ∷ l) (texts-append ks k)
 
 by_test : (b : Bool) (ks : List (Bor (List ℕ))) (k : Bor (List ℕ)) (rest : List (List ℕ)) →
     cond b (firsts_from (texts ks) rest) (firsts_from (texts ks ++ k.now ∷ []) rest) ≡ firsts_from (texts (cond b ks (ks ++ k ∷ []))) rest
 by_test true ks k rest = refl
-by_test false ks k rest = ap (λ l. firsts_from l rest) (sym (texts-append ks k))
+by_test false ks k rest = ap (λ l. firsts_from l rest) (sym (texts-push ks k))
 
 pub first_step : (names : List (Bor (List ℕ))) (i : ℕ) (d : Bor (List ℕ)) (ks : List (Bor (List ℕ))) (all : List (List ℕ)) → i < length names →
     firsts_from (texts ks) (texts (drop i names)) ≡ all →

@@ -21,5 +21,8 @@ pub const PIN_LINES: u32 = 4000;
 /// The most values of a table.
 pub const TABLE_VALUES: u32 = 60;
 
+/// The greatest number that an analog input gives: its converter has ten bits.
+pub const ANALOG_NUMBER: u32 = 1023;
+
 /// The most places of a shift register.
 pub const SHIFT_PLACES: u32 = 60;

@@ -15,7 +15,7 @@ use Rattle.ladder_meaning.specs.declared.reading.Reading.{Reading}
 use Rattle.ladder_rules.specs.Assigned.{name_bit, name_channel, HavePins}
 use Rattle.ladder_tree.specs.declared.names.Names.{Names}
 use Rattle.ladder_tree.specs.declared.project.Project.{Project}
-use Rattle.mem_plan.specs.declared.pins.TheConstants.{MOST_CONVERTED}
+use Rattle.ladder_tree.specs.declared.limits.TheConstants.{ANALOG_NUMBER}
 use Rattle.mem_plan.specs.Seen.{IsConverted, IsForChip, IsZeroElsewhere, is_high, level_at, number_at, pins_seen}
 use Rattle.mem_plan.specs.Shown.{HighInput, ShowsLevels, AnalogInput, NoInput, ShowsNumbers}
 
@@ -150,7 +150,7 @@ fits_by (pos k) most small least h = record { sfits = omega (arith, ints) }
 fits_by (negsuc k) most small least h = absurd (omega (arith, ints))
 
 pub converted_fits : (n : ℤ) → IsConverted n → FitsSigned w16 n
-converted_fits n h = fits_by n MOST_CONVERTED (omega arith) h.least h.most
+converted_fits n h = fits_by n ANALOG_NUMBER (omega arith) h.least h.most
 
 module _ (p : Project) (n : Names) (pins : HavePins p n) (r : Reading) (fits : IsForChip n r) (s : PinReading) where
   module _ (levels : ShowsLevels p n.inputs r.inputs (length n.inputs) s.levels) where

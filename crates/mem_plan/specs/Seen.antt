@@ -7,7 +7,7 @@ use Rattle.ladder_meaning.specs.declared.reading.Reading.{Reading}
 use Rattle.ladder_rules.specs.Assigned.{name_bit, name_channel}
 use Rattle.ladder_tree.specs.declared.names.Names.{Names}
 use Rattle.ladder_tree.specs.declared.project.Project.{Project}
-use Rattle.mem_plan.specs.declared.pins.TheConstants.{MOST_CONVERTED}
+use Rattle.ladder_tree.specs.declared.limits.TheConstants.{ANALOG_NUMBER}
 
 -- whether a port bit is high, where each port has a byte
 abbrev pub is_high : List ℕ → PortBit → Bool
@@ -34,7 +34,7 @@ pins_seen p n r = record {
 -- a number that the analog-to-digital converter gives
 pub record IsConverted (n : ℤ) : Type 0 where
   pub least : pos 0 ≤ℤ n
-  pub most : n ≤ℤ pos MOST_CONVERTED
+  pub most : n ≤ℤ pos ANALOG_NUMBER
 
 -- a level for each input, and a number of the converter for each analog name
 pub record IsForChip (n : Names) (r : Reading) : Type 0 where

@@ -1,6 +1,7 @@
 //! What a chip's pins show where a ladder sees a reading.
 
 ghost use Rattle.std.specs.Prelude.{◌≡◌, ◌≤◌, true, length, All};
+ghost use Rattle.ladder_tree.specs.declared.limits.TheConstants.{ANALOG_NUMBER};
 ghost use Rattle.ladder_rules.specs.Pins.{is_chip};
 ghost use Rattle.mem_plan.specs.Seen.{pins_seen, IsConverted, IsForChip, IsZeroElsewhere};
 ghost use Rattle.mem_plan.specs.Shown.{ShowsLevels, ShowsNumbers};
@@ -11,9 +12,6 @@ use ladder_rules::{Legal, name_bit, name_channel};
 use ladder_tree::element::Name;
 use ladder_tree::project::Project;
 
-/// The greatest number that the analog-to-digital converter gives.
-pub const MOST_CONVERTED: u16 = 1023;
-
 /// What a chip's pins show where the project's ladder sees a reading: levels at the pins of its inputs, numbers at the
 /// channels of its analog names, low levels and 0 elsewhere, and the devices of the reading. The reading has a level for
 /// each input, and a number from 0 to 1023 for each analog name. It takes no memory.
@@ -22,7 +20,7 @@ pub fn pin_reading(l: &Legal, r: &Reading) -> PinReading
     requires sizes { IsForChip l.now.names r.now }
     ensures seen { pins_seen l.now.project l.now.names result ≡ r.now }
     ensures elsewhere { IsZeroElsewhere l.now.project l.now.names result }
-    ensures converted { All (λ n. n ≤ MOST_CONVERTED) result.adc }
+    ensures converted { All (λ n. n ≤ ANALOG_NUMBER) result.adc }
 {
     let project = l.project();
     let names = l.names();
@@ -56,7 +54,7 @@ fn numbers_of(project: &Project, names: &[Name], numbers: &[i16]) -> [u16; 8]
     requires sizes { length numbers.now ≡ length names.now }
     requires converted { All IsConverted numbers.now }
     ensures shown { ShowsNumbers project.now names.now numbers.now (length names.now) result }
-    ensures converted { All (λ n. n ≤ MOST_CONVERTED) result }
+    ensures converted { All (λ n. n ≤ ANALOG_NUMBER) result }
 {
     let mut adc = [0; 8];
     for place in 0..names.len() {

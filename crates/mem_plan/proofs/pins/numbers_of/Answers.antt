@@ -6,7 +6,7 @@ use Rattle.std.proofs.lemmas.List.{get_or_read, length-set}
 use Rattle.std.proofs.lemmas.List.Elements.{All-set}
 use Rattle.ladder_rules.specs.Assigned.{name_channel}
 use Rattle.mem_plan.specs.Shown.{ShowsNumbers}
-use Rattle.mem_plan.specs.declared.pins.TheConstants.{MOST_CONVERTED}
+use Rattle.ladder_tree.specs.declared.limits.TheConstants.{ANALOG_NUMBER}
 use Rattle.mem_plan.proofs.SeenLemmas.{kept_numbers, more_numbers, abs_same, abs_most, converted_fits}
 use Rattle.mem_plan.proofs.pins.numbers_of.Goals.{in-Some, in_default}
 use Rattle.mem_plan.proofs.pins.numbers_of.Goals as goal
@@ -21,7 +21,7 @@ loop-place-preserved c =
     let before = c.loop-place.invariant in
     let name = get_or_read names k c.index-names-place.result c.loop-place-test.true c.index-names-place.is [] in
     let done : List ℕ → Type 0 =
-    λ adc. record { size : length adc ≡ 8; shown : ShowsNumbers p names numbers (k + 1) adc; converted : All (λ n. n ≤ MOST_CONVERTED) adc } in
+    λ adc. record { size : length adc ≡ 8; shown : ShowsNumbers p names numbers (k + 1) adc; converted : All (λ n. n ≤ ANALOG_NUMBER) adc } in
     elim c.match-name_channel.branch [
       | in-Some w ↦
           let channel = w.in-Some.channel in
@@ -38,7 +38,7 @@ loop-place-preserved c =
           subst done (sym written) (record {
             size = length-set old channel (unsigned_abs number) ∙ size;
             shown = more_numbers p names numbers k old channel (unsigned_abs number) (omega arith) there (abs_same number given.least) before.shown;
-            converted = All-set (λ n. n ≤ MOST_CONVERTED) old channel _ (abs_most number MOST_CONVERTED given.least given.most) before.converted;
+            converted = All-set (λ n. n ≤ ANALOG_NUMBER) old channel _ (abs_most number ANALOG_NUMBER given.least given.most) before.converted;
           })
       | in_default w ↦
           let none = λ (channel : ℕ) (at : name_channel p (get_or names k []) ≡ Some channel).
