@@ -61,6 +61,19 @@ all_of : (P : List ℕ → Type 0) (ns : Texts) → EachOf P ns → All P ns
 all_of P [] h = All-nil P
 all_of P (n ∷ ns) h = All-cons P n ns h.0 (all_of P ns h.1)
 
+filtered_by : (P : List ℕ → Bool) (n : List ℕ) (ns : Texts) (b : Bool) → P n ≡ b → EachOf (λ m. P m ≡ true) ns → EachOf (λ m. P m ≡ true) (cond b (n ∷ ns) ns)
+filtered_by P n ns true e h = (e, h)
+filtered_by P n ns false e h = h
+
+filtered : (P : List ℕ → Bool) (ns : Texts) → EachOf (λ m. P m ≡ true) (filter P ns)
+filtered P [] = tt
+filtered P (n ∷ ns) = filtered_by P n (filter P ns) (P n) refl (filtered P ns)
+
+-- no name begins with two letters
+not_both : (n : List ℕ) → is_input n ≡ true → is_output n ≡ true → ⊥
+not_both [] e f = let clash : ⊥ = cc in clash
+not_both (x ∷ xs) e f = grind (arith, e, f)
+
 turned : (n m : List ℕ) → bytes_eq n m ≡ false → bytes_eq m n ≡ false
 turned n m t = by (bytes_eq m n) refl
   where
@@ -251,6 +264,20 @@ module _ (p : Project) where
                 (same_by (bytes_eq (get_or (firsts ns) i []) (get_or (firsts ns) j [])) _ _ refl (need i [] lt) (need j [] gt) s);
           }
 
+      -- names of two kinds, of which no name is both, have no place together
+      crossed : (P Q : List ℕ → Bool) → ((n : List ℕ) → P n ≡ true → Q n ≡ true → ⊥) → (ns ms : Texts) → EachOf (Needed p fits) ns → EachOf (Needed p fits) ms
+          → EachOf (λ n. P n ≡ true) ns → EachOf (λ n. Q n ≡ true) ms → (i j : ℕ) → i < length (firsts ns) → j < length (firsts ms)
+          → of_name (get_or (firsts ns) i []) ≢ of_name (get_or (firsts ms) j [])
+      crossed P Q no ns ms h g a b i j lt gt s =
+          let n = get_or (firsts ns) i [] in
+          let m = get_or (firsts ms) j [] in
+          let needs = all_of (Needed p fits) (firsts ns) (firsts_each (Needed p fits) [] ns tt h) in
+          let needed = all_of (Needed p fits) (firsts ms) (firsts_each (Needed p fits) [] ms tt g) in
+          let is = all_of (λ x. P x ≡ true) (firsts ns) (firsts_each (λ x. P x ≡ true) [] ns tt a) in
+          let other = all_of (λ x. Q x ≡ true) (firsts ms) (firsts_each (λ x. Q x ≡ true) [] ms tt b) in
+          let same : n ≡ m = same_by (bytes_eq n m) n m refl (needs i [] lt) (needed j [] gt) s in
+          no m (subst (λ (x : List ℕ). P x ≡ true) same (is i [] lt)) (other j [] gt)
+
     one_bit_by : (o : Option PortBit) (q r : ℕ) → o ≡ port_bit_at p.target q → is_some o ≡ true → o ≡ port_bit_at p.target r → q ≡ r
     one_bit_by None q r is some same = let clash : ⊥ = cc in absurd clash
     one_bit_by (Some b) q r is some same = sym (alone p.target q (Some b) is r (sym same))
@@ -276,6 +303,11 @@ module _ (p : Project) where
               (all_leaves p.rungs) refl);
           analog = places ℕ (channel_at p.target) (λ q r some same. one_channel_by (channel_at p.target q) q r refl some same)
               (all_named analog_names (all_leaves p.rungs)) (analog_needed [] (all_leaves p.rungs) refl);
+          crossed = crossed PortBit (port_bit_at p.target) (λ q r some same. one_bit_by (port_bit_at p.target q) q r refl some same) is_input is_output
+              not_both (filter is_input (all_named bit_names (all_leaves p.rungs))) (filter is_output (all_named bit_names (all_leaves p.rungs)))
+              (bits_needed is_input input_only [] (all_leaves p.rungs) refl)
+              (bits_needed is_output (λ n t. or_so (is_input n) (is_output n) t) [] (all_leaves p.rungs) refl)
+              (filtered is_input (all_named bit_names (all_leaves p.rungs))) (filtered is_output (all_named bit_names (all_leaves p.rungs)));
         }
 
 few_ports : (t : Target) (k : ℕ) → k < port_count t → k < 5

@@ -1,5 +1,6 @@
 //! The answer to each command.
 
+use crate::device::{calls, file, output};
 use crate::lines::{blank_pieces, lines};
 use crate::names::listed;
 use crate::printing::{print_unread, printed};
@@ -55,6 +56,9 @@ impl Answers for Texts {
             "lines" => return lines(alloc, text),
             "pieces" => return blank_pieces(alloc, text),
             "unread" => return print_unread(alloc),
+            "calls" => return calls(alloc, command.argument),
+            "whole" => return file(alloc, command.argument),
+            "output" => return output(alloc, command.argument),
             word => return self.asked(alloc, word, text),
         }
         Ok(String::new(alloc))

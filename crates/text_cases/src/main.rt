@@ -1,7 +1,9 @@
-//! Cases of project texts: what is read of them, what they are refused for, and how they are printed back.
+//! Cases of project texts: what is read of them, what they are refused for, and how they are printed back; and of files and outputs, in memory and real.
 #![tactic(auto)]
 
 mod answers;
+mod device;
+mod host;
 mod lines;
 mod names;
 mod printing;
@@ -13,5 +15,6 @@ use std::io;
 
 fn main(rt: HostRuntime) -> io::Result<()> {
     let script = io::read_to_string(rt.alloc(), rt.reader())?;
-    play(&rt, script.as_str(), &mut Texts::new(rt.alloc()))
+    play(&rt, script.as_str(), &mut Texts::new(rt.alloc()))?;
+    host::show(&rt)
 }

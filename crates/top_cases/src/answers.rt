@@ -1,6 +1,5 @@
 //! The answer to each command.
 
-use crate::device::{calls, file, output};
 use crate::held::Held;
 use crate::needs::needs;
 use crate::runs::{Failing, NONE, destination, run_words, told};
@@ -110,9 +109,6 @@ impl Answers for Runs {
             "run" => return self.run(alloc, argument),
             "text" => return lines(alloc, self.held.get(argument)),
             "needs" => return needs(alloc, self.held.get("a"), argument),
-            "calls" => return calls(alloc, argument),
-            "whole" => return file(alloc, argument),
-            "output" => return output(alloc, argument),
             _ => return String::from_str(alloc, "no such command"),
         }
         Ok(String::new(alloc))

@@ -1,10 +1,8 @@
-//! Cases of the top call over files and an output in memory, of which any call may fail; and the real files and the real output.
+//! Cases of the top call over files and an output in memory, of which any call may fail.
 #![tactic(auto)]
 
 mod answers;
-mod device;
 mod held;
-mod host;
 mod needs;
 mod runs;
 
@@ -14,6 +12,5 @@ use std::io;
 
 fn main(rt: HostRuntime) -> io::Result<()> {
     let script = io::read_to_string(rt.alloc(), rt.reader())?;
-    play(&rt, script.as_str(), &mut Runs::new(rt.alloc()))?;
-    host::show(&rt)
+    play(&rt, script.as_str(), &mut Runs::new(rt.alloc()))
 }
