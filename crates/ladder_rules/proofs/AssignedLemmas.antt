@@ -1,5 +1,5 @@
 -- Where no rule is broken, each name that needs a pin has one that serves it, and no other name has that.
-use Rattle.std.proofs.Common.{◌≡◌, ◌≢◌, ℕ, zero, suc, ◌<◌, Bool, true, false, not, ◌||◌, cond, List, [], ◌∷◌, ◌++◌, length, get_or, Option, Some, None, inl, inr, refl, sym, ap, ◌∙◌, arith, append_assoc}
+use Rattle.std.proofs.Common.{◌≡◌, ◌≢◌, ℕ, zero, suc, ◌<◌, Bool, true, false, not, ◌||◌, cond, List, [], ◌∷◌, ◌++◌, length, get_or, Option, Some, None, inl, inr, refl, sym, ap, subst, ◌∙◌, arith, append_assoc}
 use Rattle.std.proofs.lemmas.Bool.{or_parts}
 use Rattle.std.specs.Prelude.{is_some, IsSome, IfSome, filter}
 use Rattle.std.specs.Bool.{then_some}
@@ -268,7 +268,7 @@ module _ (p : Project) where
       crossed : (P Q : List ℕ → Bool) → ((n : List ℕ) → P n ≡ true → Q n ≡ true → ⊥) → (ns ms : Texts) → EachOf (Needed p fits) ns → EachOf (Needed p fits) ms
           → EachOf (λ n. P n ≡ true) ns → EachOf (λ n. Q n ≡ true) ms → (i j : ℕ) → i < length (firsts ns) → j < length (firsts ms)
           → of_name (get_or (firsts ns) i []) ≢ of_name (get_or (firsts ms) j [])
-      crossed P Q no ns ms h g a b i j lt gt s =
+      crossed P Q never ns ms h g a b i j lt gt s =
           let n = get_or (firsts ns) i [] in
           let m = get_or (firsts ms) j [] in
           let needs = all_of (Needed p fits) (firsts ns) (firsts_each (Needed p fits) [] ns tt h) in
@@ -276,7 +276,7 @@ module _ (p : Project) where
           let is = all_of (λ x. P x ≡ true) (firsts ns) (firsts_each (λ x. P x ≡ true) [] ns tt a) in
           let other = all_of (λ x. Q x ≡ true) (firsts ms) (firsts_each (λ x. Q x ≡ true) [] ms tt b) in
           let same : n ≡ m = same_by (bytes_eq n m) n m refl (needs i [] lt) (needed j [] gt) s in
-          no m (subst (λ (x : List ℕ). P x ≡ true) same (is i [] lt)) (other j [] gt)
+          never m (subst (λ (x : List ℕ). P x ≡ true) same (is i [] lt)) (other j [] gt)
 
     one_bit_by : (o : Option PortBit) (q r : ℕ) → o ≡ port_bit_at p.target q → is_some o ≡ true → o ≡ port_bit_at p.target r → q ≡ r
     one_bit_by None q r is some same = let clash : ⊥ = cc in absurd clash
