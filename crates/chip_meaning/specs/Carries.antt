@@ -1,7 +1,8 @@
 -- When the words in a chip's flash carry a project.
-use Rattle.std.specs.Prelude.{◌≡◌, ◌≢◌, ℕ, zero, suc, ◌+◌, ◌*◌, ◌≤◌, List, [], ◌++◌, map, slice_get, Bool, Option, Some}
+use Rattle.std.specs.Prelude.{◌≡◌, ◌≢◌, ℕ, zero, suc, ◌+◌, ◌*◌, ◌≤◌, List, [], ◌++◌, map, slice_get, slice_index, Bool, Some}
 use Rattle.std.specs.List.{AllByRecursion}
 use Rattle.chip_tables.specs.declared.outside.PinReading.{PinReading}
+use Rattle.runs.specs.Chip.{steps_over}
 use Rattle.runs.specs.Run.{Moment, moment, first_moment, onward, IsStuck, ask_of}
 use Rattle.runs.specs.declared.ask.Ask.TheVariants as ask
 use Rattle.ladder_tree.specs.Names.{names_of}
@@ -39,18 +40,18 @@ pub record IsReady {M : Type 0} (chip : Chip M) (p : Project) (c : Moment M) (e 
 -- ready, and the bytes that were sent since are the first ones of the ladder's cycle. Where the chip asks for the next reading, the cycle is done.
 pub record Holds {M : Type 0} (chip : Chip M) (flash : List ℕ) (p : Project) (eeprom : ℕ → ℕ) (readings : List PinReading) (cycles boot : ℕ)
     (c : Moment M) : Type 0 where
-  pub goes_on : onward (chip.step flash) c ≢ IsStuck
+  pub goes_on : onward (steps_over chip.step flash) c ≢ IsStuck
   pub cost : c.cost ≤ most_in c.taken cycles boot + chip.wait * c.waits
   pub end : Ended
   pub ends : IsEnd p (start p eeprom) (all_seen p readings) c.taken end
   pub sent : IsFrontOf c.sent end.sent
-  pub ready : ask_of (chip.step flash) c.state ≡ ask.Reading → IsReady chip p c end
+  pub ready : ask_of (steps_over chip.step flash) c.state ≡ ask.Reading → IsReady chip p c end
 
 -- The words carry the project: whatever stands behind them in flash, whatever the chip's RAM, registers and EEPROM hold at reset, and whatever readings
 -- and answers come, all of the above holds at each moment. `cycles` is what passes at most from a reading that is taken to the next, and `boot` what
 -- passes before the first.
 abbrev pub Carries : {M : Type 0} → Chip M → Project → List ℕ → ℕ → ℕ → Type 0
 Carries {M} chip p words cycles boot =
-    (rest : List ℕ) (m : M) (eeprom : ℕ → ℕ) (readings : List PinReading) (answers : List Bool) → chip.is_reset eeprom m →
+    (rest : List ℕ) (m : M) (eeprom : List ℕ) (readings : List PinReading) (answers : List Bool) → chip.is_reset eeprom m →
     AllByRecursion chip.reads readings → (n : ℕ) (c : Moment M) →
-    moment (chip.step (words ++ rest)) n (first_moment m readings answers) ≡ Some c → Holds chip (words ++ rest) p eeprom readings cycles boot c
+    moment (steps_over chip.step (words ++ rest)) n (first_moment m readings answers) ≡ Some c → Holds chip (words ++ rest) p (slice_index eeprom) readings cycles boot c

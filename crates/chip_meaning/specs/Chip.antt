@@ -1,8 +1,8 @@
 -- A chip, as those see it who have it in their hands.
-use Rattle.std.specs.Prelude.{ℕ, List, Bool}
+use Rattle.std.specs.Prelude.{ℕ, Bool, List}
 use Rattle.chip_tables.specs.declared.outside.PinReading.{PinReading}
 use Rattle.chip_tables.specs.declared.pins.PortBit.{PortBit}
-use Rattle.runs.specs.Run.{Stepper}
+use Rattle.chip_tables.specs.Step.{Step}
 
 -- What is to be seen of a chip between two steps: the byte at each data address, the latch of each port bit, whether the chip drives the pin there,
 -- and the byte at each address of its EEPROM.
@@ -12,11 +12,10 @@ pub record View : Type 0 where
   pub drives : PortBit → Bool
   pub eeprom : ℕ → ℕ
 
--- A chip's written machine. Its step goes by the words of its flash. A machine is reset with an EEPROM that holds these bytes, whatever its RAM and its
--- registers hold. The converter gives readings of a kind alone, and each answer that a device is not ready takes so many cycles.
+-- A chip's written machine. A machine is reset with these bytes in its EEPROM, whatever its RAM and its registers hold. The converter gives readings of a kind alone, and each answer that a device is not ready takes so many cycles.
 pub record Chip (M : Type 0) : Type 1 where
-  pub step : List ℕ → Stepper M
-  pub is_reset : (ℕ → ℕ) → M → Type 0
+  pub step : Step M
+  pub is_reset : List ℕ → M → Type 0
   pub view : M → View
   pub reads : PinReading → Type 0
   pub wait : ℕ
