@@ -81,13 +81,13 @@ class Wire:
 
     def joined(self, width):
         """The lines at a width. What is missing is wire, in front of the last node where that belongs at the right end."""
-        missing = width - self.width
         if not self.blocks:
             return ["-" * width] if width else []
-        if missing < 2:
-            return [row + ("-" if at == 0 else " ") * missing for at, row in enumerate(beside(self.blocks))]
-        wire = ["-" * (missing - 2)]
-        return beside(self.blocks[:-1] + [wire, self.blocks[-1]] if self.ends_right else self.blocks + [wire])
+        missing, last = width - self.width, []
+        for at, row in enumerate(self.blocks[-1]):
+            wire = ("-" if at == 0 else " ") * missing
+            last.append(wire + row if self.ends_right else row + wire)
+        return beside([*self.blocks[:-1], last])
 
 
 def parallel(nodes):

@@ -10,6 +10,7 @@ has to be:
     drawing FILE   the drawing of a project
     console        commands behind `$ `, run by a shell beside examples/, docs/ and tools/, each with what it prints
     ladder         a project, or rungs of one, that `/c` accepts
+    hex            records of an Intel HEX file, each with its sum
     sh, c, text    what is typed elsewhere, C, and shapes: not checked
 
 `--write` puts cases, drawings and consoles right. Also checked: that links lead to files, that prose has at most 120 columns, and that each element stands
@@ -28,6 +29,11 @@ PAGES = ["README.md", "docs/LANGUAGE.md", "docs/FORMATS.md", "examples/README.md
 LINKED = [*PAGES, "docs/CRATES.md", "docs/PROMISES.md"]
 HEADER = "LDmicro0.1\nMICRO=Interpretable Byte Code\nPROGRAM\n"
 WIDEST = 120
+
+
+def is_record(line):
+    data = bytes.fromhex(line[1:])
+    return line[0] == ":" and len(data) == data[0] + 5 and sum(data) % 256 == 0
 
 
 class Shell:
@@ -55,13 +61,13 @@ class Shell:
         shown = self.run(f"./ldmicro /s {name}.ld {name}.trace")
         given = []
         for line in (TOP / f"{name}.trace").read_text().splitlines():
+            if not line or line.startswith(("#", "eeprom")):
+                shown.insert(len(given), "")
             times = re.match("([0-9]+):", line)
             given += [line] + [""] * (int(times[1]) - 1 if times else 0)
-            if line.startswith("eeprom"):
-                shown.insert(len(given) - 1, "")
         if len(given) != len(shown):
-            return [f"{len(given)} cycles of the trace, and shown are:", *shown]
-        width = max(map(len, given)) + 4
+            raise ValueError(f"{name}: {len(given)} lines of the trace, and shown are: {shown}")
+        width = max(len(left) for left, right in zip(given, shown) if right) + 4
         rows = [f"{left:{width}}{right}".rstrip() for left, right in zip(given, shown)]
         return [*self.drawing(f"{name}.ld"), "", *rungs, "", *rows]
 
@@ -87,6 +93,8 @@ class Shell:
             return self.console(lines)
         if kind == "ladder":
             return lines if self.is_accepted(lines) else ["a ladder that is accepted"]
+        if kind == "hex":
+            return lines if all(map(is_record, lines)) else ["records whose bytes are as many as they say, with the sum 0"]
         return lines if kind in ("sh", "c", "text") else ["a block of one of the kinds"]
 
 
