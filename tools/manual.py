@@ -154,6 +154,9 @@ def check_examples():
 
 
 def main():
+    if len(sys.argv) < 2:
+        print(__doc__, file=sys.stderr)
+        return 2
     program, write = pathlib.Path(sys.argv[1]).resolve(), "--write" in sys.argv[2:]
     passed, faults = 0, check_examples()
     for page in LINKED:
