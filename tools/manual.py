@@ -137,11 +137,20 @@ def check_page(shell, page, write):
     return faults, checked, "\n".join(put) + "\n"
 
 
+def anchors(path):
+    """The names of a page's headings, as links have them."""
+    headings = re.findall("(?m)^#+ (.*)$", path.read_text())
+    return {re.sub("[^a-z0-9_ -]", "", heading.lower()).replace(" ", "-") for heading in headings}
+
+
 def check_links(page):
     """The links of a page that lead nowhere."""
-    here = (TOP / page).parent
-    links = re.findall(r"\]\(([^)#:]+)(?:#[^)]*)?\)", (TOP / page).read_text())
-    return [f"{page}: no file {link}" for link in links if not (here / link).exists()]
+    here, faults = TOP / page, []
+    for link, anchor in re.findall(r"\]\(([^)#:]*)(?:#([^)]*))?\)", here.read_text()):
+        target = here.parent / link if link else here
+        if not target.exists() or (anchor and anchor not in anchors(target)):
+            faults.append(f"{page}: no {link}{'#' if anchor else ''}{anchor}")
+    return faults
 
 
 def check_examples():
