@@ -28,6 +28,7 @@ TOP = pathlib.Path(__file__).resolve().parent.parent
 PAGES = ["README.md", "docs/LANGUAGE.md", "docs/FORMATS.md", "examples/README.md"]
 LINKED = [*PAGES, "docs/CRATES.md", "docs/PROMISES.md"]
 HEADER = "LDmicro0.1\nMICRO=Interpretable Byte Code\nPROGRAM\n"
+MADE, UNCHECKED = ("case", "drawing", "console"), ("sh", "c", "text")
 WIDEST = 120
 
 
@@ -95,7 +96,7 @@ class Shell:
             return lines if self.is_accepted(lines) else ["a ladder that is accepted"]
         if kind == "hex":
             return lines if all(map(is_record, lines)) else ["records whose bytes are as many as they say, with the sum 0"]
-        return lines if kind in ("sh", "c", "text") else ["a block of one of the kinds"]
+        return lines if kind in UNCHECKED else ["a block of one of the kinds"]
 
 
 def pieces(text):
@@ -116,13 +117,13 @@ def pieces(text):
 def check_prose(page, line):
     if line.startswith("    "):
         return [f"{page}: a block without fences: {line.strip()}"]
-    wide = len(re.sub(r"\]\([^)]*\)", "]", line)) > WIDEST and not line.startswith("|")
+    wide = len(line) > WIDEST and not line.startswith("|")
     return [f"{page}: over {WIDEST} columns: {line[:60]}.."] if wide else []
 
 
 def check_page(shell, page, write):
-    """What is wrong with a page, how many blocks are checked, and the page put right."""
-    faults, put, checked = [], [], 0
+    """What is wrong with a page, how many checked blocks are right, and the page put right."""
+    faults, put, agree = [], [], 0
     for first, inside in pieces((TOP / page).read_text()):
         if inside is None:
             faults += check_prose(page, first)
@@ -130,11 +131,12 @@ def check_page(shell, page, write):
             continue
         kind, _, of = first[3:].partition(" ")
         wanted = shell.wanted(kind, of, inside)
-        checked += kind not in ("sh", "c", "text")
-        if wanted != inside and not (write and kind in ("case", "drawing", "console")):
+        made = wanted if write and kind in MADE else inside
+        if wanted != made:
             faults.append(f"{page}: `{first[3:]}` is not\n" + "\n".join(wanted))
-        put += [first, *(wanted if write and kind in ("case", "drawing", "console") else inside), "```"]
-    return faults, checked, "\n".join(put) + "\n"
+        agree += wanted == made and kind not in UNCHECKED
+        put += [first, *made, "```"]
+    return faults, agree, "\n".join(put) + "\n"
 
 
 def anchors(path):
@@ -172,12 +174,12 @@ def main():
         faults += check_links(page)
     for page in PAGES:
         with tempfile.TemporaryDirectory() as folder:
-            wrong, checked, text = check_page(Shell(program, folder), page, write)
+            wrong, agree, text = check_page(Shell(program, folder), page, write)
         faults += wrong
-        passed += checked
+        passed += agree
         if write:
             (TOP / page).write_text(text)
-        print(f"{page}: {checked} blocks" + (f", {len(wrong)} faults" if wrong else ""))
+        print(f"{page}: {agree} blocks agree" + (f", {len(wrong)} faults" if wrong else ""))
     print("\n".join(faults + [f"{passed} passed, {len(faults)} failed"]))
     return 1 if faults else 0
 
