@@ -1,0 +1,11 @@
+LDmicro0.1
+MICRO=Interpretable Byte Code
+CYCLE=10000
+
+PROGRAM
+RUNG
+    READ_ADC Astep
+END
+RUNG
+    LOOK_UP_TABLE d Astep 3 0 10 -20 30
+END

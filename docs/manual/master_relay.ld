@@ -1,0 +1,18 @@
+LDmicro0.1
+MICRO=Interpretable Byte Code
+CYCLE=10000
+
+PROGRAM
+RUNG
+    CONTACTS Xready 0
+    MASTER_RELAY
+END
+RUNG
+    COIL Yfirst 0 0 0
+END
+RUNG
+    MASTER_RELAY
+END
+RUNG
+    COIL Ysecond 0 0 0
+END

@@ -1,0 +1,9 @@
+LDmicro0.1
+MICRO=Interpretable Byte Code
+CYCLE=10000
+
+PROGRAM
+RUNG
+    CONTACTS Xa 0
+    MOVE level 50
+END

@@ -1,0 +1,14 @@
+LDmicro0.1
+MICRO=Interpretable Byte Code
+CYCLE=10000
+
+PROGRAM
+RUNG
+    CONTACTS Xa 0
+    RTO Td 20000
+    COIL Yb 0 0 0
+END
+RUNG
+    CONTACTS Xreset 0
+    RES Td
+END

@@ -1,0 +1,12 @@
+LDmicro0.1
+MICRO=Interpretable Byte Code
+CYCLE=10000
+
+PROGRAM
+RUNG
+    MOVE s0 7
+END
+RUNG
+    CONTACTS Xa 0
+    SHIFT_REGISTER s 4
+END

@@ -1,0 +1,13 @@
+LDmicro0.1
+MICRO=Interpretable Byte Code
+CYCLE=10000
+
+PROGRAM
+RUNG
+    MOVE n 300
+END
+RUNG
+    CONTACTS Xa 0
+    UART_SEND n
+    COIL Ybusy 0 0 0
+END
