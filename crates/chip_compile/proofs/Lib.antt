@@ -1,0 +1,5 @@
+pub mod RunLemmas
+pub mod HistoryLemmas
+pub mod SeenLemmas
+pub mod ShowLemmas
+pub mod Carried
