@@ -33,6 +33,7 @@ pub data Kind : Type 0 where
   Straight : (effect : View → View) (cycles : ℕ) → Kind
   SkipIf : (test : View → Bool) → Kind
   Branch : (test : View → Bool) (k : ℕ) → Kind
+  Forward : (k : ℕ) → Kind
   Jumps : (place cycles : ℕ) → Kind
   Other : Kind
 
@@ -73,7 +74,7 @@ insn_kind (insn.Sbrs r b) = SkipIf (λ v. bit_of (see v r) b)
 insn_kind (insn.Jmp place) = Jumps place 3
 insn_kind (insn.Ror d) = Other
 insn_kind (insn.Bclr s) = Other
-insn_kind (insn.Rjmp k) = Other
+insn_kind (insn.Rjmp k) = Forward k
 insn_kind (insn.Rcall k) = Other
 insn_kind (insn.Call place) = Other
 insn_kind insn.Ret = Other
@@ -119,6 +120,7 @@ InsnFits (insn.Bset s) = s ≡ 0
 InsnFits (insn.Sbrc r b) = (r < 32) × (b < 8)
 InsnFits (insn.Sbrs r b) = (r < 32) × (b < 8)
 InsnFits (insn.Jmp place) = place < 8192
+InsnFits (insn.Rjmp k) = k < 64
 InsnFits i = ⊥
 
 abbrev pub PieceFits : Piece → Type 0
@@ -129,6 +131,7 @@ PieceFits (Stores a r) = (r < 32) × IsCell a
 -- a branch is one word, and goes forward
 abbrev pub IsNear : AvrInsn → Kind → Type 0
 IsNear i (Branch test k) = (size_of i ≡ 1) × (k < 64)
+IsNear i (Forward k) = (size_of i ≡ 1) × (k < 64)
 IsNear i (Straight effect cycles) = Unit {0}
 IsNear i (SkipIf test) = Unit {0}
 IsNear i (Jumps place cycles) = Unit {0}
@@ -159,7 +162,7 @@ insn_near (insn.Brbs s k) fit = (refl, fit.1)
 insn_near (insn.Brbc s k) fit = (refl, fit.1)
 insn_near (insn.Ror d) fit = tt
 insn_near (insn.Bclr s) fit = tt
-insn_near (insn.Rjmp k) fit = tt
+insn_near (insn.Rjmp k) fit = (refl, fit)
 insn_near (insn.Rcall k) fit = tt
 insn_near (insn.Call place) fit = tt
 insn_near insn.Ret fit = tt
@@ -186,6 +189,7 @@ abbrev pub Acts : AvrInsn → Kind → Env → AvrState → View → Type 0
 Acts i (Straight effect cycles) env m v = (m' : AvrState) × (exec mega16 env i m.place m ≡ after m' Next cycles) × Sees m' (effect v)
 Acts i (SkipIf test) env m v = exec mega16 env i m.place m ≡ skip_if m (test v)
 Acts i (Branch test k) env m v = exec mega16 env i m.place m ≡ branch mega16 m (test v) m.place k
+Acts i (Forward k) env m v = exec mega16 env i m.place m ≡ branch mega16 m true m.place k
 Acts i (Jumps place cycles) env m v = exec mega16 env i m.place m ≡ after m (To place) cycles
 Acts i Other env m v = Unit {0}
 
@@ -244,6 +248,12 @@ module _ (env : Env) (m : AvrState) (v : View) (h : Sees m v) where
   far_free place low inside =
       ap (λ b. if b && nat_lt place 65536 then None else Some PastFlash) (lt-ltb (m.place + 1) 8192 (omega (arith, inside)))
       ∙ ap (λ b. if b then None else Some PastFlash) (lt-ltb place 65536 (omega (arith, low)))
+
+  -- RJMP goes forward like a branch
+  forward : (k : ℕ) → k < 64 → exec mega16 env (insn.Rjmp k) m.place m ≡ branch mega16 m true m.place k
+  forward k low =
+      ap (λ b. after m (To (if b then (m.place + 1 + k) % 8192 else (m.place + 1 + k + 4096) % 8192)) 2) (lt-ltb k 2048 (omega (arith, low)))
+      ∙ sym (ap (λ b. after m (To (if b then (m.place + 1 + k) % 8192 else (m.place + 1 + k + 8064) % 8192)) 2) (lt-ltb k 64 low))
 
   pub does : (i : AvrInsn) → InsnFits i → Ready i → Does i (insn_kind i) env m v
   does (insn.Add d r) fit inside = record {
@@ -330,7 +340,7 @@ module _ (env : Env) (m : AvrState) (v : View) (h : Sees m v) where
   does (insn.Jmp place) fit inside = record { free = far_free place fit inside; asks = refl; acts = refl }
   does (insn.Ror d) fit inside = absurd fit
   does (insn.Bclr s) fit inside = absurd fit
-  does (insn.Rjmp k) fit inside = absurd fit
+  does (insn.Rjmp k) fit inside = record { free = refl; asks = refl; acts = forward k fit }
   does (insn.Rcall k) fit inside = absurd fit
   does (insn.Call place) fit inside = absurd fit
   does insn.Ret fit inside = absurd fit

@@ -7,6 +7,7 @@ pub mod Standing
 pub mod Sums
 pub mod Compares
 pub mod Primitives
+pub mod Products
 pub mod Control
 pub mod Polling
 pub mod Whole

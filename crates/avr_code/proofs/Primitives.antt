@@ -38,7 +38,7 @@ use Rattle.avr_code.specs.Stands.{IsCell, HasFlag, StandsAt}
 use Rattle.avr_code.specs.Target.{avr_target}
 use Rattle.avr_code.proofs.Compares.{equal_words, below_words, less_words}
 use Rattle.avr_code.proofs.Effects.{InsnFits, PieceFits, result}
-use Rattle.avr_code.proofs.Paths.{Paths, At, Fork, Near, Lost, bump, paths, AllGood, AllPiecesFit, good_paths}
+use Rattle.avr_code.proofs.Paths.{Paths, At, Fork, Near, Ahead, Lost, bump, paths, AllGood, AllPiecesFit, good_paths}
 use Rattle.avr_code.proofs.Standing.{Has, Alike, ViewStands, view_of, view_seen, to_view, from_view, alike, has_same, has_cell, has_word}
 use Rattle.avr_code.proofs.Sums.{added_low, added_high, more_low, more_high, less_low, less_high, taken_low, taken_high, word_low, word_high}
 use Rattle.avr_code.proofs.View.{View, see, changed, moved, set_index}
@@ -69,7 +69,7 @@ insn_fields (insn.Brbs s k) fit = (fit.0, (let e = fit.1 in omega (arith, e)))
 insn_fields (insn.Brbc s k) fit = (fit.0, (let e = fit.1 in omega (arith, e)))
 insn_fields (insn.Ror d) fit = absurd fit
 insn_fields (insn.Bclr s) fit = absurd fit
-insn_fields (insn.Rjmp k) fit = absurd fit
+insn_fields (insn.Rjmp k) fit = omega (arith, fit)
 insn_fields (insn.Rcall k) fit = absurd fit
 insn_fields (insn.Call place) fit = absurd fit
 insn_fields insn.Ret fit = absurd fit
@@ -105,22 +105,23 @@ all_fields : (ps : List Piece) → AllPiecesFit ps → AllFit ps
 all_fields [] fit = tt
 all_fields (p ∷ ps) fit = (piece_fields p fit.0, all_fields ps fit.1)
 
-good_bump : (c n : ℕ) (E : View → Type 0) (w : Paths) → AllGood n E w → AllGood (c + n) E (bump c w)
+pub good_bump : (c n : ℕ) (E : View → Type 0) (w : Paths) → AllGood n E w → AllGood (c + n) E (bump c w)
 good_bump c n E (At v d) g = (let le = g.0 in omega (arith, le), g.1)
 good_bump c n E (Fork t a b) g = (λ e. good_bump c n E a (g.0 e), λ e. good_bump c n E b (g.1 e))
 good_bump c n E (Near t p a b) g = (λ e. ((g.0 e).0, good_bump c n E a (g.0 e).1), λ e. good_bump c n E b (g.1 e))
+good_bump c n E (Ahead p a) g = (g.0, good_bump c n E a g.1)
 good_bump c n E Lost g = g
 
-is_false : (b : Bool) → not b ≡ true → b ≡ false
+pub is_false : (b : Bool) → not b ≡ true → b ≡ false
 is_false true e = absurd (true≢false (sym e))
 is_false false e = refl
 
-is_true : (b : Bool) → not b ≡ false → b ≡ true
+pub is_true : (b : Bool) → not b ≡ false → b ≡ true
 is_true true e = refl
 is_true false e = absurd (true≢false e)
 
 -- a jump that goes by a bit of the status register
-jump_good : (cycles : ℕ) (E : View → Type 0) (v : View) (b : ℕ) (is : Bool) (place : ℕ) → 4 ≤ cycles →
+pub jump_good : (cycles : ℕ) (E : View → Type 0) (v : View) (b : ℕ) (is : Bool) (place : ℕ) → 4 ≤ cycles →
     (flag v.core b ≡ not is → (v.core.place + 1 + 2 < 8192) × E (moved v (v.core.place + 1 + 2) 2)) →
     (flag v.core b ≡ is → E (moved (moved v (v.core.place + 1) 1) place 3)) → AllGood cycles E (paths (jump_on b is place) 0 v)
 jump_good cycles E v b true place le past there = (
@@ -132,7 +133,7 @@ jump_good cycles E v b false place le past there = (
   λ t. (omega (arith, le), there t),
 )
 
-le_more : (n : ℕ) → n ≤ n + 0
+pub le_more : (n : ℕ) → n ≤ n + 0
 le_more n = omega arith
 
 two_on : (n a b p q : ℕ) → n ≡ p → q ≡ p + (a + (b + 0)) → n + a + b ≡ q
@@ -147,10 +148,10 @@ seven_on n a b x y p q e f = omega (arith, e, f)
 eight_on : (n a b c d x y p q : ℕ) → n ≡ p → q ≡ p + (a + (b + (c + (d + (1 + (1 + (x + (y + 0)))))))) → n + a + b + c + d + 1 + 1 + x + y ≡ q
 eight_on n a b c d x y p q e f = omega (arith, e, f)
 
-abbrev load_size : ℕ → ℕ → ℕ
+abbrev pub load_size : ℕ → ℕ → ℕ
 load_size r a = size_of (insn_of (Loads r a))
 
-abbrev store_size : ℕ → ℕ → ℕ
+abbrev pub store_size : ℕ → ℕ → ℕ
 store_size a r = size_of (insn_of (Stores a r))
 
 zero_on : (n p q : ℕ) → n ≡ p → q ≡ p + 0 → n ≡ q
@@ -162,19 +163,19 @@ four_words n p q e f = omega (arith, e, f)
 three_words : (n p q : ℕ) → n ≡ p → q ≡ p + 3 → n + 1 + 2 ≡ q
 three_words n p q e f = omega (arith, e, f)
 
-same_yes : (b is : Bool) → b ≡ is → same b is ≡ true
+pub same_yes : (b is : Bool) → b ≡ is → same b is ≡ true
 same_yes true true e = refl
 same_yes false false e = refl
 same_yes true false e = absurd (true≢false e)
 same_yes false true e = absurd (true≢false (sym e))
 
-same_no : (b is : Bool) → b ≡ not is → same b is ≡ false
+pub same_no : (b is : Bool) → b ≡ not is → same b is ≡ false
 same_no true false e = refl
 same_no false true e = refl
 same_no true true e = absurd (true≢false e)
 same_no false false e = absurd (true≢false (sym e))
 
-flag_value : (c : AvrState) (k : FlagKind) (o : Option Flag) → IsOfKind o k → HasFlag c o → flag c (status_bit k) ≡ value_of o
+pub flag_value : (c : AvrState) (k : FlagKind) (o : Option Flag) → IsOfKind o k → HasFlag c o → flag c (status_bit k) ≡ value_of o
 flag_value c k None fits has = absurd fits
 flag_value c k (Some f) fits has = ap (λ j. flag c (status_bit j)) (sym fits) ∙ has
 
@@ -192,7 +193,7 @@ abbrev counted : View → View
 counted v = moved (result v (λ c. with_result c 21 ((see v 21 + 255) % 256) (see v 21 == 128)) 21 ((see v 21 + 255) % 256)) (v.core.place + 1) 1
 
 -- the place of the byte state does not count
-elsewhere : (places : List ℕ) (w : View) (s : Bytes) (q : ℕ) → Has places w s → Has places w (record s { place = q })
+pub elsewhere : (places : List ℕ) (w : View) (s : Bytes) (q : ℕ) → Has places w s → Has places w (record s { place = q })
 elsewhere places w s q h = record { holds = h.holds; started = h.started; flag = h.flag; back = h.back }
 
 six_on : (n a b c d p q : ℕ) → n ≡ p → q ≡ p + (a + (b + (c + (d + (1 + (1 + 0)))))) → n + a + b + c + d + 1 + 1 ≡ q
@@ -217,17 +218,17 @@ less_flag a b c d x z y w e f g h ha hb hc hd =
     ap₂ (λ x z. sign_of x z y w) e f ∙ ap₂ (λ y w. sign_of a b y w) g h ∙ less_words a b c d ha hb hc hd
 
 module _ (lay : Layout) (m : AvrState) (s : Bytes) where
-  abbrev Ready : BytePrim → Type 0
+  abbrev pub Ready : BytePrim → Type 0
   Ready p = IsReady avr_target lay s p
 
-  abbrev Ends : BytePrim → View → Type 0
+  abbrev pub Ends : BytePrim → View → Type 0
   Ends p w = ViewStands lay.places w (act lay.code p s false no_reading).next
 
-  abbrev Good : BytePrim → List Piece → Type 0
+  abbrev pub Good : BytePrim → List Piece → Type 0
   Good p ps = (v : View) → ViewStands lay.places v s → AllGood (cycle_count p) (Ends p) (paths ps 0 v)
 
   -- code all of whose paths are good
-  coded : (p : BytePrim) (q : Piece) (ps : List Piece) → Ready p → code_of p lay.labels ≡ q ∷ ps → size_in (q ∷ ps) ≡ word_count p →
+  pub coded : (p : BytePrim) (q : Piece) (ps : List Piece) → Ready p → code_of p lay.labels ≡ q ∷ ps → size_in (q ∷ ps) ≡ word_count p →
       (act lay.code p s false no_reading).sent ≡ [] → AllPiecesFit (q ∷ ps) → StandsAt lay.places m s → Good p (q ∷ ps) →
       Moves (steps_over (avr_step mega16) lay.flash) (StandsAt lay.places) m (cycle_count p) s (act lay.code p s false no_reading)
   coded p q ps ready is size quiet fit st good =

@@ -29,9 +29,12 @@ pub record Started (v : View) : Type 0 where
   pub timing : is_timing v.core.devices ≡ true
   pub quiet : v.core.devices.timer.flag ≡ false
 
+abbrev pub BackBy : List ℕ → ℕ → (ℕ → ℕ) → Option ℕ → Type 0
+BackBy places stack cells None = stack ≡ 1119
+BackBy places stack cells (Some k) = (stack ≡ 1117) × (cells 1118 * 256 + cells 1119 ≡ slice_index places k)
+
 abbrev pub Back : List ℕ → View → Option ℕ → Type 0
-Back places v None = v.core.stack ≡ 1119
-Back places v (Some k) = (v.core.stack ≡ 1117) × (v.cells 1118 * 256 + v.cells 1119 ≡ slice_index places k)
+Back places v o = BackBy places v.core.stack v.cells o
 
 -- wherever the machine is
 pub record Has (places : List ℕ) (v : View) (s : Bytes) : Type 0 where
@@ -185,26 +188,29 @@ module _ (places : List ℕ) (v w : View) (s : Bytes) (k : Alike v w) (st : Has 
   }
 
   -- no cell changes
-  pub has_same : (o : Option Flag) (place : ℕ) → w.cells ≡ v.cells → HasFlag w.core o → Has places w (record s {
+  pub has_kept : (o : Option Flag) (place : ℕ) → ((b : ℕ) → w.cells b ≡ v.cells b) → HasFlag w.core o → Has places w (record s {
     place = place;
-    store = record s.store {
-      flag
-          = o;
-    };
+    store = record s.store { flag = o };
   })
-  has_same o place same f = record {
+  has_kept o place same f = record {
     holds = record {
       all = st.holds.all;
       scratch = st.holds.scratch;
-      cells = λ b in'. ap (λ g. g b) same ∙ st.holds.cells b in';
+      cells = λ b in'. same b ∙ st.holds.cells b in';
       bytes = st.holds.bytes;
       latches = λ port low. k.latches port ∙ st.holds.latches port low;
       reading = k.reading ∙ st.holds.reading;
     };
     started = started_on;
     flag = f;
-    back = λ e. back_kept places v w s.open_call k.stack (ap (λ g. g 1118) same) (ap (λ g. g 1119) same) (st.back e);
+    back = λ e. back_kept places v w s.open_call k.stack (same 1118) (same 1119) (st.back e);
   }
+
+  pub has_same : (o : Option Flag) (place : ℕ) → w.cells ≡ v.cells → HasFlag w.core o → Has places w (record s {
+    place = place;
+    store = record s.store { flag = o };
+  })
+  has_same o place same f = has_kept o place (λ b. ap (λ g. g b) same) f
 
   other_cell : (f : ℕ → ℕ) (a x b : ℕ) → IsCell a → 1056 ≤ b → changed f a x b ≡ f b
   other_cell f a x b in' high = let top = cell_low a in' in ap (λ t. if t then x else f b) (ne_eqb b a (λ e. omega (arith, e, top, high)))
@@ -230,9 +236,9 @@ module _ (places : List ℕ) (v w : View) (s : Bytes) (k : Alike v w) (st : Has 
       }
 
   -- two cells take a word
-  pub has_word : (a x y n : ℕ) → IsCell a → IsCell (a + 1) → w.cells ≡ changed (changed v.cells a x) (a + 1) y → x ≡ n % 256 → y ≡ n / 256 % 256 →
+  pub has_word_by : (a x y n : ℕ) → IsCell a → IsCell (a + 1) → ((b : ℕ) → w.cells b ≡ changed (changed v.cells a x) (a + 1) y b) → x ≡ n % 256 → y ≡ n / 256 % 256 →
       Has places w (record s { place = suc s.place; store = record (with_word s.store a n) { flag = None } })
-  has_word a x y n in1 in2 same e1 e2 =
+  has_word_by a x y n in1 in2 same e1 e2 =
       let low1 : a < 1120 = (let top = cell_low a in1 in omega (arith, top)) in
       let low2 : a + 1 < 1120 = (let top = cell_low (a + 1) in2 in omega (arith, top)) in
       let small1 : n % 256 < 256 = omega arith in
@@ -243,7 +249,7 @@ module _ (places : List ℕ) (v w : View) (s : Bytes) (k : Alike v w) (st : Has 
         holds = record {
           all = length-set xs (a + 1) (n / 256 % 256) ∙ all;
           scratch = st.holds.scratch;
-          cells = λ b inside. ap (λ g. g b) same ∙ cell_after xs (changed v.cells a x) (a + 1) y (n / 256 % 256) all low2 e2 b
+          cells = λ b inside. same b ∙ cell_after xs (changed v.cells a x) (a + 1) y (n / 256 % 256) all low2 e2 b
               (cell_after s.store.cells v.cells a x (n % 256) st.holds.all low1 e1 b (st.holds.cells b inside));
           bytes = byte_after xs (a + 1) (n / 256 % 256) all low2 small2 (byte_after s.store.cells a (n % 256) st.holds.all low1 small1 st.holds.bytes);
           latches = λ port low. k.latches port ∙ st.holds.latches port low;
@@ -252,6 +258,10 @@ module _ (places : List ℕ) (v w : View) (s : Bytes) (k : Alike v w) (st : Has 
         started = started_on;
         flag = tt;
         back = λ e. back_kept places v w s.open_call k.stack
-            (ap (λ g. g 1118) same ∙ other_cell (changed v.cells a x) (a + 1) y 1118 in2 (lit≤ tt) ∙ other_cell v.cells a x 1118 in1 (lit≤ tt))
-            (ap (λ g. g 1119) same ∙ other_cell (changed v.cells a x) (a + 1) y 1119 in2 (lit≤ tt) ∙ other_cell v.cells a x 1119 in1 (lit≤ tt)) (st.back e);
+            (same 1118 ∙ other_cell (changed v.cells a x) (a + 1) y 1118 in2 (lit≤ tt) ∙ other_cell v.cells a x 1118 in1 (lit≤ tt))
+            (same 1119 ∙ other_cell (changed v.cells a x) (a + 1) y 1119 in2 (lit≤ tt) ∙ other_cell v.cells a x 1119 in1 (lit≤ tt)) (st.back e);
       }
+
+  pub has_word : (a x y n : ℕ) → IsCell a → IsCell (a + 1) → w.cells ≡ changed (changed v.cells a x) (a + 1) y → x ≡ n % 256 → y ≡ n / 256 % 256 →
+      Has places w (record s { place = suc s.place; store = record (with_word s.store a n) { flag = None } })
+  has_word a x y n in1 in2 same e1 e2 = has_word_by a x y n in1 in2 (λ b. ap (λ g. g b) same) e1 e2

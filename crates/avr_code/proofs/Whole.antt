@@ -1,5 +1,5 @@
 -- The law of the primitives that are admitted.
-use Rattle.std.proofs.Common.{◌≡◌, ◌≢◌, ℕ, ◌+◌, ◌<◌, ◌≤◌, ◌⊎◌, inl, inr, true, false, List, [], ◌∷◌, length, refl, sym, ap, ◌∙◌, subst, arith, lit<, lit≤, length-append}
+use Rattle.std.proofs.Common.{◌≡◌, ◌≢◌, ℕ, suc, ◌+◌, ◌<◌, ◌≤◌, ◌⊎◌, inl, inr, true, false, List, [], ◌∷◌, length, refl, sym, ap, ◌∙◌, subst, arith, lit<, lit≤, length-append}
 use Rattle.std.specs.Prelude.{slice_index}
 use Rattle.chip_tables.specs.Outside.{no_reading}
 use Rattle.runs.specs.declared.ask.Ask.TheVariants as ask
@@ -28,6 +28,7 @@ use Rattle.avr_code.specs.Target.{Admits, AdmitsWord, leave_count, avr_target}
 use Rattle.avr_code.proofs.Control as control
 use Rattle.avr_code.proofs.Polling as polling
 use Rattle.avr_code.proofs.Primitives as law
+use Rattle.avr_code.proofs.Products as products
 use Rattle.avr_code.proofs.Walk.{sizes}
 
 word_length : (i : AvrInsn) → (size_of i ≡ 1) ⊎ (size_of i ≡ 2) → length (words_by (size_of i) i) ≡ size_of i
@@ -86,9 +87,9 @@ word_words (words.Decrement to) h = some_words (code_of (Word (words.Decrement t
 word_words (words.Add to a b) h = some_words (code_of (Word (words.Add to a b)) []) tt
 word_words (words.Subtract to (source.Cells a) b) h = some_words (code_of (Word (words.Subtract to (source.Cells a) b)) []) tt
 word_words (words.Subtract to (source.Number low high) b) h = some_words (code_of (Word (words.Subtract to (source.Number low high) b)) []) tt
-word_words (words.NegateIf to sign) h = absurd h
-word_words words.MultiplyStep h = absurd h
-word_words words.DivideStep h = absurd h
+word_words (words.NegateIf to sign) h = some_words (code_of (Word (words.NegateIf to sign)) []) tt
+word_words words.MultiplyStep h = lit< tt
+word_words words.DivideStep h = lit< tt
 
 worded : (p : BytePrim) → Admits p → has_words p ≡ true → 0 < word_count p
 worded (Label l) h e = absurd (cc e)
@@ -157,21 +158,21 @@ module _ (lay : Layout) (m : AvrState) (s : Bytes) (st : StandsAt lay.places m s
   abbrev Ready : BytePrim → Type 0
   Ready p = IsReady avr_target lay s p
 
-  word_goes : (op : WordOp) → Ready (Word op) → law.Goes lay m s (Word op)
-  word_goes (words.Move to (source.Cells a)) ready = law.move_cells lay m s to a ready st
-  word_goes (words.Move to (source.Number low high)) ready = law.move_number lay m s to low high ready st
-  word_goes (words.Increment to) ready = law.increment lay m s to ready st
-  word_goes (words.Decrement to) ready = law.decrement lay m s to ready st
-  word_goes (words.Add to a (source.Cells b)) ready = law.add_cells lay m s to a b ready st
-  word_goes (words.Add to a (source.Number low high)) ready = law.add_number lay m s to a low high ready st
-  word_goes (words.Subtract to (source.Cells a) (source.Cells b)) ready = law.subtract_cells_cells lay m s to a b ready st
-  word_goes (words.Subtract to (source.Cells a) (source.Number low high)) ready = law.subtract_cells_number lay m s to a low high ready st
-  word_goes (words.Subtract to (source.Number low high) (source.Cells b)) ready = law.subtract_number_cells lay m s to low high b ready st
-  word_goes (words.Subtract to (source.Number low high) (source.Number low2 high2)) ready =
+  word_goes : (op : WordOp) → Ready (Word op) → slice_index lay.places (suc s.place) < 8192 → law.Goes lay m s (Word op)
+  word_goes (words.Move to (source.Cells a)) ready low = law.move_cells lay m s to a ready st
+  word_goes (words.Move to (source.Number low high)) ready below = law.move_number lay m s to low high ready st
+  word_goes (words.Increment to) ready low = law.increment lay m s to ready st
+  word_goes (words.Decrement to) ready low = law.decrement lay m s to ready st
+  word_goes (words.Add to a (source.Cells b)) ready low = law.add_cells lay m s to a b ready st
+  word_goes (words.Add to a (source.Number low high)) ready below = law.add_number lay m s to a low high ready st
+  word_goes (words.Subtract to (source.Cells a) (source.Cells b)) ready low = law.subtract_cells_cells lay m s to a b ready st
+  word_goes (words.Subtract to (source.Cells a) (source.Number low high)) ready below = law.subtract_cells_number lay m s to a low high ready st
+  word_goes (words.Subtract to (source.Number low high) (source.Cells b)) ready below = law.subtract_number_cells lay m s to low high b ready st
+  word_goes (words.Subtract to (source.Number low high) (source.Number low2 high2)) ready below =
       law.subtract_number_number lay m s to low high low2 high2 ready st
-  word_goes (words.NegateIf to sign) ready = absurd ready.admitted
-  word_goes words.MultiplyStep ready = absurd ready.admitted
-  word_goes words.DivideStep ready = absurd ready.admitted
+  word_goes (words.NegateIf to sign) ready low = products.negate_if lay m s to sign ready st
+  word_goes words.MultiplyStep ready low = products.multiply_step lay m s ready st
+  word_goes words.DivideStep ready low = products.divide_step lay m s ready low st
 
   plainly : (p : BytePrim) → Ready p → asked_by p ≡ ask.Nothing → slice_index lay.places (act lay.code p s false no_reading).next.place < 8192 → law.Goes lay
       m s p
@@ -187,7 +188,7 @@ module _ (lay : Layout) (m : AvrState) (s : Bytes) (st : StandsAt lay.places m s
   plainly (Byte (bytes.Put to x)) ready q low = law.put_byte lay m s to x ready st
   plainly (Byte (bytes.Copy to from)) ready q low = law.copy_byte lay m s to from ready st
   plainly (Byte (bytes.Xor to a b)) ready q low = law.exclusive_or lay m s to a b ready st
-  plainly (Word op) ready q low = word_goes op ready
+  plainly (Word op) ready q low = word_goes op ready low
   plainly (Call l) ready q low = control.call lay m s l ready st
   plainly Return ready q low = control.return lay m s ready st
   plainly (CyclePoll l) ready q low = absurd (cc q)

@@ -77,6 +77,12 @@ divide_code =
     Plain (insn.Add 24 24) ∷ Plain (insn.Adc 25 25) ∷ Plain (insn.Adc 30 30) ∷ Plain (insn.Adc 31 31) ∷ Plain (insn.Cp 30 22) ∷ Plain (insn.Cpc 31 23)
     ∷ Plain (insn.Brbs 0 3) ∷ Plain (insn.Sub 30 22) ∷ Plain (insn.Sbc 31 23) ∷ Plain (insn.Inc 24) ∷ []
 
+-- the word's complement and 1 more, where the sign's bit 7 is 1
+abbrev pub negate_code : ℕ → ℕ → List Piece
+negate_code to sign =
+    Loads 18 sign ∷ Loads 16 to ∷ Loads 17 (to + 1) ∷ Plain (insn.Sbrs 18 7) ∷ Plain (insn.Rjmp 4) ∷ Plain (insn.Com 16) ∷ Plain (insn.Com 17)
+    ∷ Plain (insn.Adc 16 1) ∷ Plain (insn.Adc 17 1) ∷ word_stored to
+
 abbrev pub word_code : WordOp → List Piece
 word_code (words.Move to from) = word_loaded 16 from ++ word_stored to
 word_code (words.Increment to) =
@@ -87,7 +93,7 @@ word_code (words.Add to a b) =
     word_loaded 16 (source.Cells a) ++ (word_loaded 18 b ++ (Plain (insn.Add 16 18) ∷ Plain (insn.Adc 17 19) ∷ word_stored to))
 word_code (words.Subtract to a b) =
     word_loaded 16 a ++ (word_loaded 18 b ++ (Plain (insn.Sub 16 18) ∷ Plain (insn.Sbc 17 19) ∷ word_stored to))
-word_code (words.NegateIf to sign) = []
+word_code (words.NegateIf to sign) = negate_code to sign
 word_code words.MultiplyStep = multiply_code
 word_code words.DivideStep = divide_code
 

@@ -49,17 +49,16 @@ AdmitsWord (words.Increment to) = IsWord to
 AdmitsWord (words.Decrement to) = IsWord to
 AdmitsWord (words.Add to a b) = IsWord to × IsWord a × ReadsWord b
 AdmitsWord (words.Subtract to a b) = IsWord to × ReadsWord a × ReadsWord b
-AdmitsWord (words.NegateIf to sign) = ⊥
-AdmitsWord words.MultiplyStep = ⊥
-AdmitsWord words.DivideStep = ⊥
+AdmitsWord (words.NegateIf to sign) = IsWord to × IsCell sign
+AdmitsWord words.MultiplyStep = Unit {0}
+AdmitsWord words.DivideStep = Unit {0}
 
 abbrev pub AdmitsCompare : CompareOp → Type 0
 AdmitsCompare (compares.Less a b) = IsWord a × ReadsWord b
 AdmitsCompare (compares.Equal a b) = IsWord a × ReadsWord b
 AdmitsCompare (compares.Below a n) = IsWord a × (n < 256)
 
--- The cycle poll, calls, jumps but those by a bit or a device, bytes, words and comparisons. Not yet: the start, bits, negations, the steps of products
--- and quotients, devices and tables.
+-- The cycle poll, calls, jumps but those by a bit or a device, bytes, words and comparisons. Not yet: the start, bits, devices and tables.
 abbrev pub Admits : BytePrim → Type 0
 Admits (Label l) = Unit {0}
 Admits (Jump l) = Unit {0}
