@@ -23,11 +23,11 @@ use Rattle.avr_mach.specs.Words.{size_of}
 use Rattle.avr_devices.specs.Part.{mega16}
 use Rattle.target_core.specs.Law.{Moves, IsReady, Layout}
 use Rattle.avr_code.specs.Code.{Piece, Plain, Loads, Stores, cycle_count, multiply_code, divide_code, negate_code}
-use Rattle.avr_code.specs.Stands.{IsCell, StandsAt}
+use Rattle.avr_code.specs.Stands.{Board, IsCell, StandsAt}
 use Rattle.avr_code.specs.Target.{avr_target}
 use Rattle.avr_code.proofs.Paths.{AllGood, paths}
 use Rattle.avr_code.proofs.Primitives.{coded, is_false, is_true, elsewhere, load_size, store_size}
-use Rattle.avr_code.proofs.Standing.{Has, Alike, alike, has_kept, has_word, has_word_by, ViewStands}
+use Rattle.avr_code.proofs.Standing.{Has, Alike, alike, alike_cells, has_kept, has_word, has_word_by, ViewStands}
 use Rattle.avr_code.proofs.Sums.{carry_is, borrow_is}
 use Rattle.avr_code.proofs.View.{View, changed}
 
@@ -41,7 +41,7 @@ negated_high a b x y z e f g ha hb = high (as_bit (nat_lt 255 (255 - x + z + 1))
     high : (k : ℕ) → k ≡ (255 - x + z + 1) / 256 → (255 - y + z + k) % 256 ≡ (65536 - (a + b * 256)) % 65536 / 256 % 256
     high k q = omega (arith, q, e, f, g, ha, hb)
 
-written_back : (f : ℕ → ℕ) (a b : ℕ) → changed f a (f a) b ≡ f b
+pub written_back : (f : ℕ → ℕ) (a b : ℕ) → changed f a (f a) b ≡ f b
 written_back f a b = ⊎_elim (λ (same : b ≡ a). ap (λ t. if t then f a else f b) (eq-eqb b a same) ∙ ap f (sym same))
     (λ (other : b ≢ a). ap (λ t. if t then f a else f b) (ne_eqb b a other)) (cases_eq b a)
 
@@ -65,7 +65,8 @@ left_inside : (n a b c x y p q : ℕ) → n ≡ p → q ≡ p + (a + (b + (c + (
     n + a + b + c + 1 + 1 + 4 < 8192
 left_inside n a b c x y p q e f g one = omega (arith, e, f, g, one)
 
-negated_cost : (a b c x y : ℕ) → a + (b + (c + (2 + (1 + (1 + (1 + (1 + (x + (y + 0))))))))) ≤ a + (b + (c + (1 + (1 + (1 + (1 + (1 + (1 + (x + (y + 0)))))))))) + 0
+negated_cost : (a b c x y : ℕ) → a + (b + (c + (2 + (1 + (1 + (1 + (1 + (x + (y + 0))))))))) ≤ a +
+    (b + (c + (1 + (1 + (1 + (1 + (1 + (1 + (x + (y + 0)))))))))) + 0
 negated_cost a b c x y = omega arith
 
 left_cost : (a b c x y : ℕ) → a + (b + (c + (1 + (2 + (x + (y + 0)))))) ≤ a + (b + (c + (1 + (1 + (1 + (1 + (1 + (1 + (x + (y + 0)))))))))) + 0
@@ -116,34 +117,35 @@ abbrev Spares : (ℕ → ℕ) → (ℕ → ℕ) → Type 0
 Spares f g = (n : ℕ) → (n == 22) ≡ false → (n == 23) ≡ false → (n == 24) ≡ false → (n == 25) ≡ false → (n == 30) ≡ false → (n == 31) ≡ false → g n ≡ f n
 
 a_low : IsCell 24
-a_low = inl (lit< tt, refl)
+a_low = inl (lit< tt, refl, refl)
 
 a_high : IsCell 25
-a_high = inl (lit< tt, refl)
+a_high = inl (lit< tt, refl, refl)
 
 b_low : IsCell 22
-b_low = inl (lit< tt, refl)
+b_low = inl (lit< tt, refl, refl)
 
 b_high : IsCell 23
-b_high = inl (lit< tt, refl)
+b_high = inl (lit< tt, refl, refl)
 
 r_low : IsCell 30
-r_low = inl (lit< tt, refl)
+r_low = inl (lit< tt, refl, refl)
 
 r_high : IsCell 31
-r_high = inl (lit< tt, refl)
+r_high = inl (lit< tt, refl, refl)
 
 abbrev taking : (ℕ → ℕ) → ℕ → ℕ → ℕ → ℕ
 taking f a n = changed (changed f a (n % 256)) (a + 1) (n / 256 % 256)
 
 -- R and A take words
-has_four : (places : List ℕ) (v w : View) (s : Bytes) → Alike v w → Has places v s → (r a : ℕ) → Spares v.cells w.cells → w.cells 22 ≡ v.cells 22 →
+has_four : (board : Board) (places : List ℕ) (v w : View) (s : Bytes) → Alike v w → Has board places v s → (r a : ℕ) → Spares v.cells w.cells →
+    w.cells 22 ≡ v.cells 22 →
     w.cells 23 ≡ v.cells 23 → w.cells 24 ≡ a % 256 → w.cells 25 ≡ a / 256 % 256 → w.cells 30 ≡ r % 256 → w.cells 31 ≡ r / 256 % 256 →
-    Has places w (record s { place = suc s.place; store = plain (with_word (with_word s.store 30 r) 24 a) })
-has_four places v w s k has r a spares e22 e23 e24 e25 e30 e31 =
+    Has board places w (record s { place = suc s.place; store = plain (with_word (with_word s.store 30 r) 24 a) })
+has_four board places v w s k has r a spares e22 e23 e24 e25 e30 e31 =
     let v1 : View = record v { cells = taking v.cells 30 r } in
-    let has1 = has_word places v v1 s (alike v v1 refl (λ port. refl) refl refl refl refl) has 30 _ _ r r_low r_high refl refl refl in
-    elsewhere places w _ (suc s.place) (has_word_by places v1 w _ (alike v1 w k.reading k.latches k.timing k.quiet k.stack k.zero) has1 24 _ _ a a_low a_high
+    let has1 = has_word board places v v1 s (alike v v1 refl refl refl (λ port. refl) refl refl refl refl) has 30 _ _ r r_low r_high refl refl refl in
+    elsewhere board places w _ (suc s.place) (has_word_by board places v1 w _ (alike_cells v w v1.cells k) has1 24 _ _ a a_low a_high
     (six (λ n. w.cells n ≡ taking v1.cells 24 a n) e22 e23 e24 e25 e30 e31
     (λ n na nb nc nd ne nf. spares n na nb nc nd ne nf ∙ sym (off v.cells n na nb nc nd ne nf))) refl refl)
   where
@@ -151,15 +153,16 @@ has_four places v w s k has r a spares e22 e23 e24 e25 e30 e31 =
     off f n na nb nc nd ne nf = rw (nc, nd, ne, nf) refl
 
 -- R, B and A take words
-has_six : (places : List ℕ) (v w : View) (s : Bytes) → Alike v w → Has places v s → (r b a : ℕ) → Spares v.cells w.cells → w.cells 22 ≡ b % 256 →
+has_six : (board : Board) (places : List ℕ) (v w : View) (s : Bytes) → Alike v w → Has board places v s → (r b a : ℕ) → Spares v.cells w.cells →
+    w.cells 22 ≡ b % 256 →
     w.cells 23 ≡ b / 256 % 256 → w.cells 24 ≡ a % 256 → w.cells 25 ≡ a / 256 % 256 → w.cells 30 ≡ r % 256 → w.cells 31 ≡ r / 256 % 256 →
-    Has places w (record s { place = suc s.place; store = plain (with_word (with_word (with_word s.store 30 r) 22 b) 24 a) })
-has_six places v w s k has r b a spares e22 e23 e24 e25 e30 e31 =
+    Has board places w (record s { place = suc s.place; store = plain (with_word (with_word (with_word s.store 30 r) 22 b) 24 a) })
+has_six board places v w s k has r b a spares e22 e23 e24 e25 e30 e31 =
     let v1 : View = record v { cells = taking v.cells 30 r } in
-    let has1 = has_word places v v1 s (alike v v1 refl (λ port. refl) refl refl refl refl) has 30 _ _ r r_low r_high refl refl refl in
+    let has1 = has_word board places v v1 s (alike v v1 refl refl refl (λ port. refl) refl refl refl refl) has 30 _ _ r r_low r_high refl refl refl in
     let v2 : View = record v { cells = taking v1.cells 22 b } in
-    let has2 = has_word places v1 v2 _ (alike v1 v2 refl (λ port. refl) refl refl refl refl) has1 22 _ _ b b_low b_high refl refl refl in
-    elsewhere places w _ (suc s.place) (has_word_by places v2 w _ (alike v2 w k.reading k.latches k.timing k.quiet k.stack k.zero) has2 24 _ _ a a_low a_high
+    let has2 = has_word board places v1 v2 _ (alike v1 v2 refl refl refl (λ port. refl) refl refl refl refl) has1 22 _ _ b b_low b_high refl refl refl in
+    elsewhere board places w _ (suc s.place) (has_word_by board places v2 w _ (alike_cells v w v2.cells k) has2 24 _ _ a a_low a_high
     (six (λ n. w.cells n ≡ taking v2.cells 24 a n) e22 e23 e24 e25 e30 e31
     (λ n na nb nc nd ne nf. spares n na nb nc nd ne nf ∙ sym (off v.cells n na nb nc nd ne nf))) refl refl)
   where
@@ -309,12 +312,12 @@ over_three n p q e f = omega (arith, e, f)
 ten_on : (n p q : ℕ) → n ≡ p → q ≡ p + 10 → n + 1 + 1 + 1 + 1 + 1 + 1 + 1 + 1 + 1 + 1 ≡ q
 ten_on n p q e f = omega (arith, e, f)
 
-module _ (lay : Layout) (m : AvrState) (s : Bytes) where
+module _ (board : Board) (lay : Layout) (m : AvrState) (s : Bytes) where
   abbrev Ready : BytePrim → Type 0
-  Ready p = IsReady avr_target lay s p
+  Ready p = IsReady (avr_target board) lay s p
 
   abbrev Goes : BytePrim → Type 0
-  Goes p = Moves (steps_over (avr_step mega16) lay.flash) (StandsAt lay.places) m (cycle_count p) s (act lay.code p s false no_reading)
+  Goes p = Moves (steps_over (avr_step mega16) lay.flash) (StandsAt board lay.places) m (cycle_count p) s (act lay.code p s false no_reading)
 
   one_or_two : (a r : ℕ) → 1 ≤ store_size a r
   one_or_two a r = by (nat_lt a 32)
@@ -323,8 +326,9 @@ module _ (lay : Layout) (m : AvrState) (s : Bytes) where
       by true = lit≤ tt
       by false = lit≤ tt
 
-  pub negate_if : (to sign : ℕ) → Ready (Word (words.NegateIf to sign)) → StandsAt lay.places m s → Goes (Word (words.NegateIf to sign))
-  negate_if to sign ready st = coded lay m s (Word (words.NegateIf to sign)) (Loads 18 sign) (Loads 16 to ∷ Loads 17 (to + 1) ∷ Plain (insn.Sbrs 18 7) ∷ Plain
+  pub negate_if : (to sign : ℕ) → Ready (Word (words.NegateIf to sign)) → StandsAt board lay.places m s → Goes (Word (words.NegateIf to sign))
+  negate_if to sign ready st = coded board lay m s (Word (words.NegateIf to sign)) (Loads 18 sign) (Loads 16 to ∷ Loads 17 (to + 1) ∷
+      Plain (insn.Sbrs 18 7) ∷ Plain
       (insn.Rjmp 4) ∷ Plain (insn.Com 16) ∷ Plain (insn.Com 17) ∷ Plain (insn.Adc 16 1) ∷ Plain (insn.Adc 17 1) ∷ Stores to 16 ∷ Stores (to + 1) 17 ∷ []) ready
       refl refl refl (
         (lit< tt, ready.admitted.1),
@@ -353,12 +357,32 @@ module _ (lay : Layout) (m : AvrState) (s : Bytes) where
           negated_cost _ _ _ _ _,
           record {
             has = record {
-              holds = record { all = z.holds.all; scratch = z.holds.scratch; cells = z.holds.cells; bytes = z.holds.bytes; latches = z.holds.latches; reading = z.holds.reading };
-              started = λ e. record { zero = (z.started e).zero; timing = (z.started e).timing; quiet = (z.started e).quiet };
+              holds = record {
+                all = z.holds.all;
+                scratch = z.holds.scratch;
+                target = z.holds.target;
+                ports = z.holds.ports;
+                wires = z.holds.wires;
+                cells =
+                    z.holds.cells;
+                bytes = z.holds.bytes;
+                latches = z.holds.latches;
+                reading = z.holds.reading;
+                eeprom = z.holds.eeprom;
+              };
+              settings = z.settings;
+              started = λ e. record {
+                zero = (z.started e).zero;
+                directions = (z.started e).directions;
+                timing = (z.started e).timing;
+                quiet =
+                    (z.started e).quiet;
+              };
               flag = tt;
               back = z.back;
             };
-            at = negated_on v.core.place (load_size 18 sign) (load_size 16 to) (load_size 17 (to + 1)) (store_size to 16) (store_size (to + 1) 17) _ _ h.at ready.next;
+            at = negated_on v.core.place (load_size 18 sign) (load_size 16 to) (load_size 17 (to + 1)) (store_size to 16)
+                (store_size (to + 1) 17) _ _ h.at ready.next;
           },
         ),
         λ t. (
@@ -368,12 +392,31 @@ module _ (lay : Layout) (m : AvrState) (s : Bytes) where
             left_cost _ _ _ _ _,
             record {
               has = record {
-                holds = record { all = z.holds.all; scratch = z.holds.scratch; cells = z.holds.cells; bytes = z.holds.bytes; latches = z.holds.latches; reading = z.holds.reading };
-                started = λ e. record { zero = (z.started e).zero; timing = (z.started e).timing; quiet = (z.started e).quiet };
+                holds = record {
+                  all = z.holds.all;
+                  scratch = z.holds.scratch;
+                  target = z.holds.target;
+                  ports = z.holds.ports;
+                  wires = z.holds.wires;
+                  cells = z.holds.cells;
+                  bytes = z.holds.bytes;
+                  latches = z.holds.latches;
+                  reading = z.holds.reading;
+                  eeprom = z.holds.eeprom;
+                };
+                settings = z.settings;
+                started = λ e. record {
+                  zero = (z.started e).zero;
+                  directions = (z.started e).directions;
+                  timing = (z.started e).timing;
+                  quiet =
+                      (z.started e).quiet;
+                };
                 flag = tt;
                 back = z.back;
               };
-              at = left_on v.core.place (load_size 18 sign) (load_size 16 to) (load_size 17 (to + 1)) (store_size to 16) (store_size (to + 1) 17) _ _ h.at ready.next;
+              at = left_on v.core.place (load_size 18 sign) (load_size 16 to) (load_size 17 (to + 1)) (store_size to 16)
+                  (store_size (to + 1) 17) _ _ h.at ready.next;
             },
           ),
         ),
@@ -388,25 +431,26 @@ module _ (lay : Layout) (m : AvrState) (s : Bytes) where
       in_high : IsCell (to + 1)
       in_high = ready.admitted.0.1
 
-      test : (v : View) → ViewStands lay.places v s → (b : Bool) → bit_of (v.cells sign) 7 ≡ b → bit_of (cell s.store sign) 7 ≡ b
+      test : (v : View) → ViewStands board lay.places v s → (b : Bool) → bit_of (v.cells sign) 7 ≡ b → bit_of (cell s.store sign) 7 ≡ b
       test v h b t = sym (ap (λ x. bit_of x 7) (h.has.holds.cells sign ready.admitted.1)) ∙ t
 
       same : (v : View) (f : ℕ → ℕ) → Alike v (record v { cells = f })
-      same v f = alike v _ refl (λ port. refl) refl refl refl refl
+      same v f = alike v _ refl refl refl (λ port. refl) refl refl refl refl
 
-      negated : (v : View) → ViewStands lay.places v s → bit_of (v.cells sign) 7 ≡ true →
-          Has lay.places (record v { cells = opposed v.cells to (v.work 1) }) (Next (bit_of (cell s.store sign) 7))
-      negated v h t = subst (λ b. Has lay.places (record v { cells = opposed v.cells to (v.work 1) }) (Next b)) (sym (test v h true t))
-          (has_word lay.places v _ s (same v _) h.has to _ _ ((65536 - word_at s.store to) % 65536) in_low in_high refl
+      negated : (v : View) → ViewStands board lay.places v s → bit_of (v.cells sign) 7 ≡ true →
+          Has board lay.places (record v { cells = opposed v.cells to (v.work 1) }) (Next (bit_of (cell s.store sign) 7))
+      negated v h t = subst (λ b. Has board lay.places (record v { cells = opposed v.cells to (v.work 1) }) (Next b)) (sym (test v h true t))
+          (has_word board lay.places v _ s (same v _) h.has to _ _ ((65536 - word_at s.store to) % 65536) in_low in_high refl
           (negated_low (cell s.store to) (cell s.store (to + 1)) _ _ (h.has.holds.cells to in_low) (h.has.started ready.begins).zero (h.has.holds.bytes to)
           (h.has.holds.bytes (to + 1)))
           (negated_high (cell s.store to) (cell s.store (to + 1)) _ _ _ (h.has.holds.cells to in_low) (h.has.holds.cells (to + 1) in_high)
           (h.has.started ready.begins).zero (h.has.holds.bytes to) (h.has.holds.bytes (to + 1))))
 
-      left : (v : View) → ViewStands lay.places v s → bit_of (v.cells sign) 7 ≡ false →
-          Has lay.places (record v { cells = changed (changed v.cells to (v.cells to)) (to + 1) (v.cells (to + 1)) }) (Next (bit_of (cell s.store sign) 7))
-      left v h t = subst (λ b. Has lay.places (record v { cells = changed (changed v.cells to (v.cells to)) (to + 1) (v.cells (to + 1)) }) (Next b))
-          (sym (test v h false t)) (has_kept lay.places v _ s (same v _) h.has None (suc s.place) (word_back v.cells to) tt)
+      left : (v : View) → ViewStands board lay.places v s → bit_of (v.cells sign) 7 ≡ false →
+          Has board lay.places (record v { cells = changed (changed v.cells to (v.cells to)) (to + 1) (v.cells (to + 1)) })
+          (Next (bit_of (cell s.store sign) 7))
+      left v h t = subst (λ b. Has board lay.places (record v { cells = changed (changed v.cells to (v.cells to)) (to + 1) (v.cells (to + 1)) }) (Next b))
+          (sym (test v h false t)) (has_kept board lay.places v _ s (same v _) h.has None (suc s.place) (word_back v.cells to) tt)
 
   abbrev multiplied_by : Scratch → Store → Bytes
   multiplied_by c d = record s {
@@ -424,21 +468,21 @@ module _ (lay : Layout) (m : AvrState) (s : Bytes) where
         22 (cell s.store 22 / 2 + cell s.store 23 / 2 * 256)) 24 (word_at s.store 24 * 2 % 65536));
   }
 
-  multiplied_so : (v : View) → ViewStands lay.places v s → (low high : Bool) → bit_of (v.cells 22) 0 ≡ low → bit_of (v.cells 23) 0 ≡ high →
-      (f : ℕ → ℕ) → Has lay.places (record v { cells = f }) (Multiplied low high) →
-      Has lay.places (record v { cells = f }) (multiplied_by s.store.scratch s.store)
+  multiplied_so : (v : View) → ViewStands board lay.places v s → (low high : Bool) → bit_of (v.cells 22) 0 ≡ low → bit_of (v.cells 23) 0 ≡ high →
+      (f : ℕ → ℕ) → Has board lay.places (record v { cells = f }) (Multiplied low high) →
+      Has board lay.places (record v { cells = f }) (multiplied_by s.store.scratch s.store)
   multiplied_so v h low high e g f has =
       let w : View = record v { cells = f } in
-      subst (λ c. Has lay.places w (multiplied_by c s.store)) (sym h.has.holds.scratch)
-      (subst (λ b. Has lay.places w (Multiplied b (bit_of (cell s.store 23) 0))) (sym (sym (ap (λ x. bit_of x 0) (h.has.holds.cells 22 b_low)) ∙ e))
-      (subst (λ b. Has lay.places w (Multiplied low b)) (sym (sym (ap (λ x. bit_of x 0) (h.has.holds.cells 23 b_high)) ∙ g)) has))
+      subst (λ c. Has board lay.places w (multiplied_by c s.store)) (sym h.has.holds.scratch)
+      (subst (λ b. Has board lay.places w (Multiplied b (bit_of (cell s.store 23) 0))) (sym (sym (ap (λ x. bit_of x 0) (h.has.holds.cells 22 b_low)) ∙ e))
+      (subst (λ b. Has board lay.places w (Multiplied low b)) (sym (sym (ap (λ x. bit_of x 0) (h.has.holds.cells 23 b_high)) ∙ g)) has))
 
   abbrev StepMade : View → (ℕ → ℕ) → Type 0
-  StepMade v f = Has lay.places (record v { cells = f }) (multiplied_by s.store.scratch s.store)
+  StepMade v f = Has board lay.places (record v { cells = f }) (multiplied_by s.store.scratch s.store)
 
-  module _ (v : View) (h : ViewStands lay.places v s) where
+  module _ (v : View) (h : ViewStands board lay.places v s) where
     same : (f : ℕ → ℕ) → Alike v (record v { cells = f })
-    same f = alike v _ refl (λ port. refl) refl refl refl refl
+    same f = alike v _ refl refl refl (λ port. refl) refl refl refl refl
 
     r0 : v.cells 30 ≡ cell s.store 30
     r0 = h.has.holds.cells 30 r_low
@@ -462,33 +506,34 @@ module _ (lay : Layout) (m : AvrState) (s : Bytes) where
     byte = h.has.holds.bytes
 
     neither : bit_of (v.cells 22) 0 ≡ false → bit_of (v.cells 23) 0 ≡ false → StepMade v (doubled (halved (halved v.cells 22) 23))
-    neither e g = multiplied_so v h false false e g _ (has_six lay.places v _ s (same _) h.has _ _ _ (λ n na nb nc nd ne nf. rw (na, nb, nc, nd) refl)
+    neither e g = multiplied_so v h false false e g _ (has_six board lay.places v _ s (same _) h.has _ _ _ (λ n na nb nc nd ne nf. rw (na, nb, nc, nd) refl)
         (halved_low _ _ (cell s.store 23) b0 (byte 22)) (halved_high _ (cell s.store 22) _ b1 (byte 22) (byte 23))
         (doubled_low _ _ (cell s.store 25) a0) (doubled_high _ _ _ _ a0 a1 (byte 24))
         (neither_low _ _ (cell s.store 31) (word_at s.store 24) r0 (byte 30) (byte 31))
         (neither_high _ (cell s.store 30) _ (word_at s.store 24) r1 (byte 30) (byte 31)))
 
     first : bit_of (v.cells 22) 0 ≡ true → bit_of (v.cells 23) 0 ≡ false → StepMade v (doubled (halved (added (halved v.cells 22)) 23))
-    first e g = multiplied_so v h true false e g _ (has_six lay.places v _ s (same _) h.has _ _ _ (λ n na nb nc nd ne nf. rw (na, nb, nc, nd, ne, nf) refl)
+    first e g = multiplied_so v h true false e g _ (has_six board lay.places v _ s (same _) h.has _ _ _
+        (λ n na nb nc nd ne nf. rw (na, nb, nc, nd, ne, nf) refl)
         (halved_low _ _ (cell s.store 23) b0 (byte 22)) (halved_high _ (cell s.store 22) _ b1 (byte 22) (byte 23))
         (doubled_low _ _ (cell s.store 25) a0) (doubled_high _ _ _ _ a0 a1 (byte 24))
         (first_low _ _ _ (cell s.store 31) _ (cell s.store 25) r0 a0) (first_high _ _ _ _ _ _ _ _ r0 a0 r1 a1 (byte 30) (byte 24)))
 
     second : bit_of (v.cells 22) 0 ≡ false → bit_of (v.cells 23) 0 ≡ true → StepMade v (doubled (added_high (halved (halved v.cells 22) 23)))
-    second e g = multiplied_so v h false true e g _ (has_six lay.places v _ s (same _) h.has _ _ _ (λ n na nb nc nd ne nf. rw (na, nb, nc, nd, nf) refl)
+    second e g = multiplied_so v h false true e g _ (has_six board lay.places v _ s (same _) h.has _ _ _ (λ n na nb nc nd ne nf. rw (na, nb, nc, nd, nf) refl)
         (halved_low _ _ (cell s.store 23) b0 (byte 22)) (halved_high _ (cell s.store 22) _ b1 (byte 22) (byte 23))
         (doubled_low _ _ (cell s.store 25) a0) (doubled_high _ _ _ _ a0 a1 (byte 24))
         (second_low _ _ (cell s.store 31) (cell s.store 24) (cell s.store 25) r0 (byte 30) (byte 31))
         (second_high _ _ (cell s.store 30) _ _ (cell s.store 25) a0 r1 (byte 30) (byte 31)))
 
     both : bit_of (v.cells 22) 0 ≡ true → bit_of (v.cells 23) 0 ≡ true → StepMade v (doubled (added_high (halved (added (halved v.cells 22)) 23)))
-    both e g = multiplied_so v h true true e g _ (has_six lay.places v _ s (same _) h.has _ _ _ (λ n na nb nc nd ne nf. rw (na, nb, nc, nd, ne, nf) refl)
+    both e g = multiplied_so v h true true e g _ (has_six board lay.places v _ s (same _) h.has _ _ _ (λ n na nb nc nd ne nf. rw (na, nb, nc, nd, ne, nf) refl)
         (halved_low _ _ (cell s.store 23) b0 (byte 22)) (halved_high _ (cell s.store 22) _ b1 (byte 22) (byte 23))
         (doubled_low _ _ (cell s.store 25) a0) (doubled_high _ _ _ _ a0 a1 (byte 24))
         (both_low _ _ _ (cell s.store 31) _ (cell s.store 25) r0 a0) (both_high _ _ _ _ _ _ _ _ r0 a0 r1 a1 (byte 30) (byte 24)))
 
-  pub multiply_step : Ready (Word words.MultiplyStep) → StandsAt lay.places m s → Goes (Word words.MultiplyStep)
-  multiply_step ready st = coded lay m s (Word words.MultiplyStep) (Plain (insn.Lsr 22)) (Plain (insn.Brbc 0 2) ∷ Plain (insn.Add 30 24) ∷ Plain
+  pub multiply_step : Ready (Word words.MultiplyStep) → StandsAt board lay.places m s → Goes (Word words.MultiplyStep)
+  multiply_step ready st = coded board lay m s (Word words.MultiplyStep) (Plain (insn.Lsr 22)) (Plain (insn.Brbc 0 2) ∷ Plain (insn.Add 30 24) ∷ Plain
       (insn.Adc 31 25) ∷ Plain (insn.Lsr 23) ∷ Plain (insn.Brbc 0 1) ∷ Plain (insn.Add 31 24) ∷ Plain (insn.Add 24 24) ∷ Plain (insn.Adc 25 25) ∷ []) ready
       refl refl refl (
         lit< tt,
@@ -525,8 +570,26 @@ module _ (lay : Layout) (m : AvrState) (s : Bytes) where
                 lit≤ tt,
                 record {
                   has = record {
-                    holds = record { all = z.holds.all; scratch = z.holds.scratch; cells = z.holds.cells; bytes = z.holds.bytes; latches = z.holds.latches; reading = z.holds.reading };
-                    started = λ e. record { zero = (z.started e).zero; timing = (z.started e).timing; quiet = (z.started e).quiet };
+                    holds = record {
+                      all = z.holds.all;
+                      scratch = z.holds.scratch;
+                      target = z.holds.target;
+                      ports = z.holds.ports;
+                      wires = z.holds.wires;
+                      cells = z.holds.cells;
+                      bytes = z.holds.bytes;
+                      latches = z.holds.latches;
+                      reading = z.holds.reading;
+                      eeprom = z.holds.eeprom;
+                    };
+                    settings = z.settings;
+                    started = λ e. record {
+                      zero = (z.started e).zero;
+                      directions = (z.started e).directions;
+                      timing = (z.started e).timing;
+                      quiet =
+                          (z.started e).quiet;
+                    };
                     flag = tt;
                     back = z.back;
                   };
@@ -538,8 +601,26 @@ module _ (lay : Layout) (m : AvrState) (s : Bytes) where
               lit≤ tt,
               record {
                 has = record {
-                  holds = record { all = z.holds.all; scratch = z.holds.scratch; cells = z.holds.cells; bytes = z.holds.bytes; latches = z.holds.latches; reading = z.holds.reading };
-                  started = λ e. record { zero = (z.started e).zero; timing = (z.started e).timing; quiet = (z.started e).quiet };
+                  holds = record {
+                    all = z.holds.all;
+                    scratch = z.holds.scratch;
+                    target = z.holds.target;
+                    ports = z.holds.ports;
+                    wires = z.holds.wires;
+                    cells = z.holds.cells;
+                    bytes = z.holds.bytes;
+                    latches = z.holds.latches;
+                    reading = z.holds.reading;
+                    eeprom = z.holds.eeprom;
+                  };
+                  settings = z.settings;
+                  started = λ e. record {
+                    zero = (z.started e).zero;
+                    directions = (z.started e).directions;
+                    timing = (z.started e).timing;
+                    quiet =
+                        (z.started e).quiet;
+                  };
                   flag = tt;
                   back = z.back;
                 };
@@ -555,8 +636,26 @@ module _ (lay : Layout) (m : AvrState) (s : Bytes) where
               lit≤ tt,
               record {
                 has = record {
-                  holds = record { all = z.holds.all; scratch = z.holds.scratch; cells = z.holds.cells; bytes = z.holds.bytes; latches = z.holds.latches; reading = z.holds.reading };
-                  started = λ e. record { zero = (z.started e).zero; timing = (z.started e).timing; quiet = (z.started e).quiet };
+                  holds = record {
+                    all = z.holds.all;
+                    scratch = z.holds.scratch;
+                    target = z.holds.target;
+                    ports = z.holds.ports;
+                    wires = z.holds.wires;
+                    cells = z.holds.cells;
+                    bytes = z.holds.bytes;
+                    latches = z.holds.latches;
+                    reading = z.holds.reading;
+                    eeprom = z.holds.eeprom;
+                  };
+                  settings = z.settings;
+                  started = λ e. record {
+                    zero = (z.started e).zero;
+                    directions = (z.started e).directions;
+                    timing = (z.started e).timing;
+                    quiet =
+                        (z.started e).quiet;
+                  };
                   flag = tt;
                   back = z.back;
                 };
@@ -568,8 +667,26 @@ module _ (lay : Layout) (m : AvrState) (s : Bytes) where
             lit≤ tt,
             record {
               has = record {
-                holds = record { all = z.holds.all; scratch = z.holds.scratch; cells = z.holds.cells; bytes = z.holds.bytes; latches = z.holds.latches; reading = z.holds.reading };
-                started = λ e. record { zero = (z.started e).zero; timing = (z.started e).timing; quiet = (z.started e).quiet };
+                holds = record {
+                  all = z.holds.all;
+                  scratch = z.holds.scratch;
+                  target = z.holds.target;
+                  ports = z.holds.ports;
+                  wires = z.holds.wires;
+                  cells = z.holds.cells;
+                  bytes = z.holds.bytes;
+                  latches = z.holds.latches;
+                  reading = z.holds.reading;
+                  eeprom = z.holds.eeprom;
+                };
+                settings = z.settings;
+                started = λ e. record {
+                  zero = (z.started e).zero;
+                  directions = (z.started e).directions;
+                  timing = (z.started e).timing;
+                  quiet =
+                      (z.started e).quiet;
+                };
                 flag = tt;
                 back = z.back;
               };
@@ -605,14 +722,14 @@ module _ (lay : Layout) (m : AvrState) (s : Bytes) where
       by : (n : ℕ) → n % 65536 < 65536
       by n = omega arith
 
-  module _ (v : View) (h : ViewStands lay.places v s) where
+  module _ (v : View) (h : ViewStands board lay.places v s) where
     abbrev RestMade : (ℕ → ℕ) → Type 0
-    RestMade f = Has lay.places (record v { cells = f }) (divided_by s.store.scratch s.store)
+    RestMade f = Has board lay.places (record v { cells = f }) (divided_by s.store.scratch s.store)
 
-    divided_so : (b : Bool) → nat_le (word_at s.store 22) Rest ≡ b → (f : ℕ → ℕ) → Has lay.places (record v { cells = f }) (Divided b) → RestMade f
+    divided_so : (b : Bool) → nat_le (word_at s.store 22) Rest ≡ b → (f : ℕ → ℕ) → Has board lay.places (record v { cells = f }) (Divided b) → RestMade f
     divided_so b e f has =
-        subst (λ c. Has lay.places (record v { cells = f }) (divided_by c s.store)) (sym h.has.holds.scratch)
-        (subst (λ b. Has lay.places (record v { cells = f }) (Divided b)) (sym e) has)
+        subst (λ c. Has board lay.places (record v { cells = f }) (divided_by c s.store)) (sym h.has.holds.scratch)
+        (subst (λ b. Has board lay.places (record v { cells = f }) (Divided b)) (sym e) has)
 
     rest_byte : rolled v.cells 30 ≡ Rest % 256
     rest_byte = rest_low _ _ _ (cell s.store 24) (cell s.store 25) (cell s.store 30) (cell s.store 31) (a0 v h) (a1 v h) (r0 v h) (byte v h 24) (byte v h 25)
@@ -627,18 +744,20 @@ module _ (lay : Layout) (m : AvrState) (s : Bytes) where
     is_enough t e = enough _ _ _ _ (cell s.store 22) (cell s.store 23) Rest rest_byte rest_top (b0 v h) (b1 v h) small_rest (byte v h 22) (byte v h 23) t e
 
     too_little : nat_lt (rolled v.cells 31) (v.cells 23 + as_bit (nat_lt (rolled v.cells 30) (v.cells 22 + 0))) ≡ true → RestMade (rolled v.cells)
-    too_little t = divided_so false (is_enough true t) _ (has_four lay.places v _ s (same v h _) h.has _ _ (λ n na nb nc nd ne nf. rw (nc, nd, ne, nf) refl)
+    too_little t = divided_so false (is_enough true t) _ (has_four board lay.places v _ s (same v h _) h.has _ _
+        (λ n na nb nc nd ne nf. rw (nc, nd, ne, nf) refl)
         refl refl (doubled_low _ _ (cell s.store 25) (a0 v h)) (doubled_high _ _ _ _ (a0 v h) (a1 v h) (byte v h 24)) rest_byte rest_top)
 
     taken_away : nat_lt (rolled v.cells 31) (v.cells 23 + as_bit (nat_lt (rolled v.cells 30) (v.cells 22 + 0))) ≡ false → RestMade (lessened (rolled v.cells))
-    taken_away t = divided_so true (is_enough false t) _ (has_four lay.places v _ s (same v h _) h.has _ _ (λ n na nb nc nd ne nf. rw (nc, nd, ne, nf) refl)
+    taken_away t = divided_so true (is_enough false t) _ (has_four board lay.places v _ s (same v h _) h.has _ _
+        (λ n na nb nc nd ne nf. rw (nc, nd, ne, nf) refl)
         refl refl (bit_low _ _ (cell s.store 25) (a0 v h) (byte v h 24) (byte v h 25)) (bit_high _ _ _ _ (a0 v h) (a1 v h) (byte v h 24) (byte v h 25))
         (left_low _ _ (cell s.store 22) (cell s.store 23) Rest rest_byte (b0 v h) (byte v h 22) (byte v h 23) (is_enough false t))
         (left_high _ _ _ _ (cell s.store 22) (cell s.store 23) Rest rest_byte rest_top (b0 v h) (b1 v h) small_rest (byte v h 22) (byte v h 23)
         (is_enough false t)))
 
-  pub divide_step : Ready (Word words.DivideStep) → slice_index lay.places (suc s.place) < 8192 → StandsAt lay.places m s → Goes (Word words.DivideStep)
-  divide_step ready low st = coded lay m s (Word words.DivideStep) (Plain (insn.Add 24 24)) (Plain (insn.Adc 25 25) ∷ Plain (insn.Adc 30 30) ∷ Plain
+  pub divide_step : Ready (Word words.DivideStep) → slice_index lay.places (suc s.place) < 8192 → StandsAt board lay.places m s → Goes (Word words.DivideStep)
+  divide_step ready low st = coded board lay m s (Word words.DivideStep) (Plain (insn.Add 24 24)) (Plain (insn.Adc 25 25) ∷ Plain (insn.Adc 30 30) ∷ Plain
       (insn.Adc 31 31) ∷ Plain (insn.Cp 30 22) ∷ Plain (insn.Cpc 31 23) ∷ Plain (insn.Brbs 0 3) ∷ Plain (insn.Sub 30 22) ∷ Plain (insn.Sbc 31 23) ∷ Plain
       (insn.Inc 24) ∷ []) ready refl refl refl (
         (lit< tt, lit< tt),
@@ -669,8 +788,26 @@ module _ (lay : Layout) (m : AvrState) (s : Bytes) where
             lit≤ tt,
             record {
               has = record {
-                holds = record { all = z.holds.all; scratch = z.holds.scratch; cells = z.holds.cells; bytes = z.holds.bytes; latches = z.holds.latches; reading = z.holds.reading };
-                started = λ e. record { zero = (z.started e).zero; timing = (z.started e).timing; quiet = (z.started e).quiet };
+                holds = record {
+                  all = z.holds.all;
+                  scratch = z.holds.scratch;
+                  target = z.holds.target;
+                  ports = z.holds.ports;
+                  wires = z.holds.wires;
+                  cells = z.holds.cells;
+                  bytes = z.holds.bytes;
+                  latches = z.holds.latches;
+                  reading = z.holds.reading;
+                  eeprom = z.holds.eeprom;
+                };
+                settings = z.settings;
+                started = λ e. record {
+                  zero = (z.started e).zero;
+                  directions = (z.started e).directions;
+                  timing = (z.started e).timing;
+                  quiet =
+                      (z.started e).quiet;
+                };
                 flag = tt;
                 back = z.back;
               };
@@ -682,8 +819,27 @@ module _ (lay : Layout) (m : AvrState) (s : Bytes) where
           lit≤ tt,
           record {
             has = record {
-              holds = record { all = z.holds.all; scratch = z.holds.scratch; cells = z.holds.cells; bytes = z.holds.bytes; latches = z.holds.latches; reading = z.holds.reading };
-              started = λ e. record { zero = (z.started e).zero; timing = (z.started e).timing; quiet = (z.started e).quiet };
+              holds = record {
+                all = z.holds.all;
+                scratch = z.holds.scratch;
+                target = z.holds.target;
+                ports = z.holds.ports;
+                wires = z.holds.wires;
+                cells =
+                    z.holds.cells;
+                bytes = z.holds.bytes;
+                latches = z.holds.latches;
+                reading = z.holds.reading;
+                eeprom = z.holds.eeprom;
+              };
+              settings = z.settings;
+              started = λ e. record {
+                zero = (z.started e).zero;
+                directions = (z.started e).directions;
+                timing = (z.started e).timing;
+                quiet =
+                    (z.started e).quiet;
+              };
               flag = tt;
               back = z.back;
             };
