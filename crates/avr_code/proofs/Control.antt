@@ -25,10 +25,11 @@ use Rattle.avr_mach.specs.Step.{avr_step, insn_at, at_place}
 use Rattle.avr_mach.specs.Words.{size_of}
 use Rattle.target_core.specs.Law.{Leads, here, on, LeadsFrom, Moves, IsReady, Layout}
 use Rattle.avr_code.specs.Code.{Plain, cycle_count}
-use Rattle.avr_code.specs.Stands.{IsCell, HasReturn, StandsAt}
+use Rattle.avr_code.specs.Stands.{Board, HasReturn, StandsAt}
 use Rattle.avr_code.specs.Target.{avr_target}
 use Rattle.avr_code.proofs.Effects.{sees_ram}
-use Rattle.avr_code.proofs.Standing.{view_of, view_seen, to_view, from_view, cell_low}
+use Rattle.chip_tables.specs.Bits.{bit_of}
+use Rattle.avr_code.proofs.Standing.{view_of, view_seen, to_view, from_view, cell_low, wire_low}
 use Rattle.avr_code.proofs.Steps.{Steps, env_of, settled_by, step_is, ask_is}
 use Rattle.avr_code.proofs.View.{View, changed, sees_moved, sees_core}
 use Rattle.avr_code.proofs.Walk.{code_held}
@@ -89,17 +90,17 @@ ret_free n e = ap (λ n. if nat_le 96 (n + 1) && nat_lt (n + 2) 1120 then None e
 parts : (back q : ℕ) → back ≡ q → back / 256 * 256 + back % 256 ≡ q
 parts back q e = omega (arith, e)
 
-module _ (lay : Layout) (m : AvrState) (s : Bytes) where
+module _ (board : Board) (lay : Layout) (m : AvrState) (s : Bytes) where
   abbrev Ready : BytePrim → Type 0
-  Ready p = IsReady avr_target lay s p
+  Ready p = IsReady (avr_target board) lay s p
 
   abbrev Place : ℕ
   Place = slice_index lay.places s.place
 
   abbrev Goes : BytePrim → Type 0
-  Goes p = Moves (steps_over (avr_step mega16) lay.flash) (StandsAt lay.places) m (cycle_count p) s (act lay.code p s false no_reading)
+  Goes p = Moves (steps_over (avr_step mega16) lay.flash) (StandsAt board lay.places) m (cycle_count p) s (act lay.code p s false no_reading)
 
-  pub call : (l : ℕ) → Ready (Call l) → StandsAt lay.places m s → Goes (Call l)
+  pub call : (l : ℕ) → Ready (Call l) → StandsAt board lay.places m s → Goes (Call l)
   call l ready st =
       let named = ready.label l refl in
       let to = slice_index lay.labels l in
@@ -111,19 +112,19 @@ module _ (lay : Layout) (m : AvrState) (s : Bytes) where
       let next = at_place (record m { sram = slice_set (slice_set m.sram 1023 ((m.place + 2) % 256)) 1022 ((m.place + 2) / 256); stack = 1117 }) to 4 in
       let step = one_step lay.flash m next (insn.Call to) 4 low (ap (insn_at mega16 lay.flash) st.at ∙ code.1) (call_free m to m.stack top room named.1) refl
       (ap (λ (c : AvrState). WentTo (at_place c to 4) 4) (pushed m (m.place + 2) m.stack top)) in
-      inl (from_step lay.flash (λ m'. StandsAt lay.places m' (act lay.code (Call l) s false no_reading).next) m next 4 step (stands named.0))
+      inl (from_step lay.flash (λ m'. StandsAt board lay.places m' (act lay.code (Call l) s false no_reading).next) m next 4 step (stands named.0))
     where
       HasReturnAt : Option ℕ → Type 0
       HasReturnAt o = HasReturn lay.places m o
 
-      stands : slice_index lay.labels l ≡ slice_index lay.places (label_place lay.code l) → StandsAt lay.places
+      stands : slice_index lay.labels l ≡ slice_index lay.places (label_place lay.code l) → StandsAt board lay.places
           (at_place (record m { sram = slice_set (slice_set m.sram 1023 ((m.place + 2) % 256)) 1022 ((m.place + 2) / 256); stack = 1117 }) (slice_index
           lay.labels l) 4)
           (act lay.code (Call l) s false no_reading).next
       stands named =
           let v = view_of m in
           let seen = view_seen m st.shows.regs st.shows.sram in
-          let has = (to_view lay.places m v s seen st).has in
+          let has = (to_view board lay.places m v s seen st).has in
           let low = (m.place + 2) % 256 in
           let high = (m.place + 2) / 256 in
           let env = env_of false no_reading in
@@ -133,29 +134,40 @@ module _ (lay : Layout) (m : AvrState) (s : Bytes) where
           let seen2 = sees_ram env (record m { sram = slice_set m.sram 1023 low }) v1 seen1 1118 high (lit≤ tt) (lit< tt) in
           let seen3 = sees_core _ v2 (λ c. record c { stack = 1117 }) refl refl refl seen2 in
           let seen4 = sees_moved _ _ (slice_index lay.labels l) 4 seen3 in
-          from_view lay.places _ _ _ seen4 (record {
+          from_view board lay.places _ _ _ seen4 (record {
             has = record {
               holds = record {
                 all = has.holds.all;
                 scratch = has.holds.scratch;
-                cells = λ a in'. above a in' (cell_low a in') v.cells low high ∙ has.holds.cells a in';
+                target = has.holds.target;
+                ports = has.holds.ports;
+                cells = λ a in'. above a (cell_low a in') v.cells low high ∙ has.holds.cells a in';
+                wires = λ a is. ap (λ x. bit_of x 0) (above a (let near = wire_low a is in omega (arith, near)) v.cells low high) ∙ has.holds.wires a is;
                 bytes = has.holds.bytes;
                 latches = has.holds.latches;
                 reading = has.holds.reading;
+                eeprom = has.holds.eeprom;
               };
-              started = λ e. record { zero = (has.started e).zero; timing = (has.started e).timing; quiet = (has.started e).quiet };
+              settings = has.settings;
+              started = λ e. record {
+                zero = (has.started e).zero;
+                directions = (has.started e).directions;
+                timing = (has.started e).timing;
+                quiet =
+                    (has.started e).quiet;
+              };
               flag = tt;
               back = λ e. (refl, parts (m.place + 2) _ (let a = st.at in let b = ready.next in omega (arith, a, b)));
             };
             at = named;
           })
         where
-          above : (a : ℕ) → IsCell a → a < 1056 → (f : ℕ → ℕ) (x y : ℕ) → changed (changed f 1119 x) 1118 y a ≡ f a
-          above a in' low f x y =
+          above : (a : ℕ) → a < 1056 → (f : ℕ → ℕ) (x y : ℕ) → changed (changed f 1119 x) 1118 y a ≡ f a
+          above a low f x y =
               ap (λ t. if t then y else changed f 1119 x a) (ne_eqb a 1118 (λ e. omega (arith, e, low)))
               ∙ ap (λ t. if t then x else f a) (ne_eqb a 1119 (λ e. omega (arith, e, low)))
 
-  pub return : Ready Return → StandsAt lay.places m s → Goes Return
+  pub return : Ready Return → StandsAt board lay.places m s → Goes Return
   return ready st = by s.open_call refl ready.fits.0
     where
       by : (o : Option ℕ) → s.open_call ≡ o → IsSome o → Goes Return
@@ -170,23 +182,34 @@ module _ (lay : Layout) (m : AvrState) (s : Bytes) where
           let to : (act lay.code Return s false no_reading).next ≡ returned s (plain s.store) (Some k) = ap (returned s (plain s.store)) e in
           let v = view_of m in
           let seen = view_seen m st.shows.regs st.shows.sram in
-          let has = (to_view lay.places m v s seen st).has in
+          let has = (to_view board lay.places m v s seen st).has in
           let seen2 = sees_moved _ _ (return_place m) 4 (sees_core m v (λ c. record c { stack = c.stack + 2 }) refl refl refl seen) in
-          let stands : StandsAt lay.places next (returned s (plain s.store) (Some k)) = from_view lay.places _ _ _ seen2 (record {
+          let stands : StandsAt board lay.places next (returned s (plain s.store) (Some k)) = from_view board lay.places _ _ _ seen2 (record {
             has = record {
               holds = record {
                 all = has.holds.all;
                 scratch = has.holds.scratch;
+                target = has.holds.target;
+                ports = has.holds.ports;
                 cells = has.holds.cells;
+                wires = has.holds.wires;
                 bytes = has.holds.bytes;
                 latches = has.holds.latches;
                 reading = has.holds.reading;
+                eeprom = has.holds.eeprom;
               };
-              started = λ e. record { zero = (has.started e).zero; timing = (has.started e).timing; quiet = (has.started e).quiet };
+              settings = has.settings;
+              started = λ e. record {
+                zero = (has.started e).zero;
+                directions = (has.started e).directions;
+                timing = (has.started e).timing;
+                quiet =
+                    (has.started e).quiet;
+              };
               flag = tt;
               back = λ e. ap (λ n. n + 2) top.0;
             };
             at = top.1;
           }) in
-          inl (from_step lay.flash (λ m'. StandsAt lay.places m' (act lay.code Return s false no_reading).next) m next 4 step
-          (subst (StandsAt lay.places next) (sym to) stands))
+          inl (from_step lay.flash (λ m'. StandsAt board lay.places m' (act lay.code Return s false no_reading).next) m next 4 step
+          (subst (StandsAt board lay.places next) (sym to) stands))

@@ -1,10 +1,14 @@
 -- What each instruction of the code does to the view of a machine.
-use Rattle.std.proofs.Common.{◌≡◌, ◌≢◌, ⊎_elim, length, eq-eqb, ℕ, ◌+◌, ◌-◌, ◌/◌, ◌%◌, ◌<◌, ◌≤◌, inl, inr, Bool, true, false, Some, None, refl, sym, ap, ap₂, ◌∙◌, subst, arith}
+use Rattle.std.proofs.Common.{◌≡◌, ◌≢◌, ⊎_elim, length, eq-eqb, ℕ, zero, suc, ◌+◌, ◌-◌, ◌/◌, ◌%◌, ◌<◌, ◌≤◌, inl, inr, Bool, true, false, Some, None, refl, sym, ap, ap₂, ◌∙◌, subst, arith, lit<}
 use Rattle.std.proofs.Math.ListN.{length-set}
 use Rattle.std.proofs.lemmas.Bool.{cases_eq, lt-ltb, le-ltb, le-leb, ne_eqb}
 use Rattle.std.specs.Prelude.{◌==◌, ◌&&◌, not, nat_lt, if◌then◌else◌, slice_index, slice_set, bit_and, bit_or, bit_xor}
 use Rattle.chip_tables.specs.Bits.{bit_of, as_bit}
+use Rattle.byte_code.specs.declared.prim.BitSource.{BitSource}
+use Rattle.byte_code.specs.declared.prim.BitSource.TheVariants as bit
+use Rattle.byte_code.specs.Store.{with_bit}
 use Rattle.chip_tables.specs.declared.outside.Env.{Env}
+use Rattle.avr_devices.specs.Device.{port_of, with_port, pins}
 use Rattle.chip_tables.specs.declared.outside.StuckCause.TheVariants.{PastFlash}
 use Rattle.runs.specs.declared.ask.Ask.TheVariants as ask
 use Rattle.avr_devices.specs.Part.{mega16}
@@ -25,14 +29,15 @@ use Rattle.avr_devices.specs.DeviceWrites.{sent_to}
 use Rattle.avr_devices.specs.IoSpace.{register_at, register_in}
 use Rattle.chip_tables.specs.declared.outside.Poll.TheVariants.{NoPoll}
 use Rattle.avr_mach.specs.Words.{size_of}
-use Rattle.avr_code.specs.Code.{Piece, Plain, Loads, Stores, insn_of}
-use Rattle.avr_code.specs.Stands.{is_work, IsCell}
+use Rattle.avr_code.specs.Code.{Piece, Plain, Loads, Stores, Fetches, Gives, Latches, insn_of}
+use Rattle.avr_code.specs.Stands.{is_work, IsHeld, IsCell}
 use Rattle.avr_code.proofs.View.{View, see, put, changed, bare, Sees, sees_core, sees_put, set_index}
 
 pub data Kind : Type 0 where
   Straight : (effect : View → View) (cycles : ℕ) → Kind
   SkipIf : (test : View → Bool) → Kind
   Branch : (test : View → Bool) (k : ℕ) → Kind
+  Forward : (k : ℕ) → Kind
   Jumps : (place cycles : ℕ) → Kind
   Other : Kind
 
@@ -73,7 +78,7 @@ insn_kind (insn.Sbrs r b) = SkipIf (λ v. bit_of (see v r) b)
 insn_kind (insn.Jmp place) = Jumps place 3
 insn_kind (insn.Ror d) = Other
 insn_kind (insn.Bclr s) = Other
-insn_kind (insn.Rjmp k) = Other
+insn_kind (insn.Rjmp k) = Forward k
 insn_kind (insn.Rcall k) = Other
 insn_kind (insn.Call place) = Other
 insn_kind insn.Ret = Other
@@ -90,10 +95,24 @@ insn_kind (insn.Std q r) = Other
 insn_kind (insn.St r) = Other
 insn_kind insn.Nop = Other
 
+-- the byte of a bit
+abbrev pub fetched : View → BitSource → ℕ
+fetched v (bit.Cell a b) = v.cells a
+fetched v (bit.Level port b) = pins (port_of v.core.devices port) (slice_index v.core.devices.reading.levels port)
+fetched v (bit.Latch port b) = (port_of v.core.devices port).latch
+
+-- a bit of a latch becomes so
+abbrev pub latched : AvrState → ℕ → ℕ → Bool → AvrState
+latched c port b x =
+    record c { devices = with_port c.devices port (record (port_of c.devices port) { latch = with_bit (port_of c.devices port).latch b x }) }
+
 abbrev pub kind_of : Piece → Kind
 kind_of (Plain i) = insn_kind i
 kind_of (Loads r a) = Straight (λ v. put v r (v.cells a)) (size_of (insn_of (Loads r a)))
 kind_of (Stores a r) = Straight (λ v. record v { cells = changed v.cells a (see v r) }) (size_of (insn_of (Stores a r)))
+kind_of (Fetches from) = Straight (λ v. put v 18 (fetched v from)) (size_of (insn_of (Fetches from)))
+kind_of (Gives a r) = Straight (λ v. record v { cells = changed v.cells a (see v r) }) 1
+kind_of (Latches port b x) = Straight (λ v. record v { core = latched v.core port b x }) 2
 
 -- registers are below 32, places are in flash, and cells are there
 abbrev pub InsnFits : AvrInsn → Type 0
@@ -119,16 +138,30 @@ InsnFits (insn.Bset s) = s ≡ 0
 InsnFits (insn.Sbrc r b) = (r < 32) × (b < 8)
 InsnFits (insn.Sbrs r b) = (r < 32) × (b < 8)
 InsnFits (insn.Jmp place) = place < 8192
+InsnFits (insn.Rjmp k) = k < 64
 InsnFits i = ⊥
+
+abbrev pub FetchFits : BitSource → Type 0
+FetchFits (bit.Cell a b) = IsHeld a
+FetchFits (bit.Level port b) = port < 4
+FetchFits (bit.Latch port b) = port < 4
 
 abbrev pub PieceFits : Piece → Type 0
 PieceFits (Plain i) = InsnFits i
 PieceFits (Loads r a) = (r < 32) × IsCell a
 PieceFits (Stores a r) = (r < 32) × IsCell a
+PieceFits (Fetches from) = FetchFits from
+PieceFits (Gives a r) = (r < 32) × (a < 32) × (is_work a ≡ false)
+PieceFits (Latches port b x) = (port < 4) × (b < 8)
+
+pub held : (a : ℕ) → IsCell a → IsHeld a
+held a (inl low) = inl (low.0, low.1)
+held a (inr high) = inr high
 
 -- a branch is one word, and goes forward
 abbrev pub IsNear : AvrInsn → Kind → Type 0
 IsNear i (Branch test k) = (size_of i ≡ 1) × (k < 64)
+IsNear i (Forward k) = (size_of i ≡ 1) × (k < 64)
 IsNear i (Straight effect cycles) = Unit {0}
 IsNear i (SkipIf test) = Unit {0}
 IsNear i (Jumps place cycles) = Unit {0}
@@ -159,7 +192,7 @@ insn_near (insn.Brbs s k) fit = (refl, fit.1)
 insn_near (insn.Brbc s k) fit = (refl, fit.1)
 insn_near (insn.Ror d) fit = tt
 insn_near (insn.Bclr s) fit = tt
-insn_near (insn.Rjmp k) fit = tt
+insn_near (insn.Rjmp k) fit = (refl, fit)
 insn_near (insn.Rcall k) fit = tt
 insn_near (insn.Call place) fit = tt
 insn_near insn.Ret fit = tt
@@ -180,12 +213,16 @@ pub is_near : (p : Piece) → PieceFits p → IsNear (insn_of p) (kind_of p)
 is_near (Plain i) fit = insn_near i fit
 is_near (Loads r a) fit = tt
 is_near (Stores a r) fit = tt
+is_near (Fetches from) fit = tt
+is_near (Gives a r) fit = tt
+is_near (Latches port b x) fit = tt
 
 -- what an instruction does as its kind says, wherever it stands
 abbrev pub Acts : AvrInsn → Kind → Env → AvrState → View → Type 0
 Acts i (Straight effect cycles) env m v = (m' : AvrState) × (exec mega16 env i m.place m ≡ after m' Next cycles) × Sees m' (effect v)
 Acts i (SkipIf test) env m v = exec mega16 env i m.place m ≡ skip_if m (test v)
 Acts i (Branch test k) env m v = exec mega16 env i m.place m ≡ branch mega16 m (test v) m.place k
+Acts i (Forward k) env m v = exec mega16 env i m.place m ≡ branch mega16 m true m.place k
 Acts i (Jumps place cycles) env m v = exec mega16 env i m.place m ≡ after m (To place) cycles
 Acts i Other env m v = Unit {0}
 
@@ -193,6 +230,9 @@ pub record Does (i : AvrInsn) (kind : Kind) (env : Env) (m : AvrState) (v : View
   pub free : obstacle mega16 i m ≡ None
   pub asks : insn_ask i m.devices ≡ ask.Nothing
   pub acts : Acts i kind env m v
+
+pub past_ports : (k : ℕ) → suc (suc (suc (suc k))) < 4 → ⊥
+past_ports k low = omega (arith, low)
 
 module _ (env : Env) (m : AvrState) (v : View) (h : Sees m v) where
   same_carry : m.carry ≡ v.core.carry
@@ -244,6 +284,12 @@ module _ (env : Env) (m : AvrState) (v : View) (h : Sees m v) where
   far_free place low inside =
       ap (λ b. if b && nat_lt place 65536 then None else Some PastFlash) (lt-ltb (m.place + 1) 8192 (omega (arith, inside)))
       ∙ ap (λ b. if b then None else Some PastFlash) (lt-ltb place 65536 (omega (arith, low)))
+
+  -- RJMP goes forward like a branch
+  forward : (k : ℕ) → k < 64 → exec mega16 env (insn.Rjmp k) m.place m ≡ branch mega16 m true m.place k
+  forward k low =
+      ap (λ b. after m (To (if b then (m.place + 1 + k) % 8192 else (m.place + 1 + k + 4096) % 8192)) 2) (lt-ltb k 2048 (omega (arith, low)))
+      ∙ sym (ap (λ b. after m (To (if b then (m.place + 1 + k) % 8192 else (m.place + 1 + k + 8064) % 8192)) 2) (lt-ltb k 64 low))
 
   pub does : (i : AvrInsn) → InsnFits i → Ready i → Does i (insn_kind i) env m v
   does (insn.Add d r) fit inside = record {
@@ -330,7 +376,7 @@ module _ (env : Env) (m : AvrState) (v : View) (h : Sees m v) where
   does (insn.Jmp place) fit inside = record { free = far_free place fit inside; asks = refl; acts = refl }
   does (insn.Ror d) fit inside = absurd fit
   does (insn.Bclr s) fit inside = absurd fit
-  does (insn.Rjmp k) fit inside = absurd fit
+  does (insn.Rjmp k) fit inside = record { free = refl; asks = refl; acts = forward k fit }
   does (insn.Rcall k) fit inside = absurd fit
   does (insn.Call place) fit inside = absurd fit
   does insn.Ret fit inside = absurd fit
@@ -372,7 +418,7 @@ module _ (env : Env) (m : AvrState) (v : View) (h : Sees m v) where
       ap (λ b. if b then ask.Nothing else if nat_lt a 96 then lds_ask m.devices (register_at (a - 32)) else ask.Nothing) (le-ltb a 32 (omega (arith, lo)))
       ∙ ap (λ b. if b then lds_ask m.devices (register_at (a - 32)) else ask.Nothing) (le-ltb a 96 lo)
 
-  loads : (r a : ℕ) → r < 32 → IsCell a → m.place + size_of (insn_of (Loads r a)) ≤ 8192 → Does (insn_of (Loads r a)) (kind_of (Loads r a)) env m v
+  loads : (r a : ℕ) → r < 32 → IsHeld a → m.place + size_of (insn_of (Loads r a)) ≤ 8192 → Does (insn_of (Loads r a)) (kind_of (Loads r a)) env m v
   loads r a fr (inl low) inside = subst (λ b. Does (if b then insn.Mov r a else insn.Lds r a)
       (Straight (λ v. put v r (v.cells a)) (size_of (if b then insn.Mov r a else insn.Lds r a))) env m v) (sym (lt-ltb a 32 low.0))
       (record { free = refl; asks = refl; acts = takes r (reg m a) (v.cells a) fr (h.file a low.0 ∙ cell_seen a low.1) })
@@ -422,7 +468,7 @@ module _ (env : Env) (m : AvrState) (v : View) (h : Sees m v) where
           (λ (e : b ≡ a). eq-eqb (b - 96) (a - 96) (omega (arith, e)) ∙ sym (eq-eqb b a e))
           (λ (ne : b ≢ a). ne_eqb (b - 96) (a - 96) (λ q. ne (omega (arith, q, la, lb))) ∙ sym (ne_eqb b a ne)) (cases_eq b a)
 
-  stores : (a r : ℕ) → r < 32 → IsCell a → m.place + size_of (insn_of (Stores a r)) ≤ 8192 → Does (insn_of (Stores a r)) (kind_of (Stores a r)) env m v
+  stores : (a r : ℕ) → r < 32 → IsHeld a → m.place + size_of (insn_of (Stores a r)) ≤ 8192 → Does (insn_of (Stores a r)) (kind_of (Stores a r)) env m v
   stores a r fr (inl low) inside = subst (λ b. Does (if b then insn.Mov a r else insn.Sts a r)
       (Straight (λ v. record v { cells = changed v.cells a (see v r) }) (size_of (if b then insn.Mov a r else insn.Sts a r))) env m v) (sym (lt-ltb a 32
       low.0))
@@ -450,8 +496,82 @@ module _ (env : Env) (m : AvrState) (v : View) (h : Sees m v) where
         );
       })
 
+  abbrev Fetched : BitSource → Type 0
+  Fetched from = Does (insn_of (Fetches from)) (kind_of (Fetches from)) env m v
+
+  -- a port's register is read
+  level : (port b : ℕ) → port < 4 → Fetched (bit.Level port b)
+  level zero b low = record {
+    free = refl;
+    asks = refl;
+    acts = takes 18 _ _ (lit< tt) (ap (λ (c : AvrState). pins c.devices.port_a (slice_index c.devices.reading.levels 0)) h.core);
+  }
+  level (suc zero) b low = record {
+    free = refl;
+    asks = refl;
+    acts = takes 18 _ _ (lit< tt) (ap (λ (c : AvrState). pins c.devices.port_b (slice_index c.devices.reading.levels 1)) h.core);
+  }
+  level (suc (suc zero)) b low = record {
+    free = refl;
+    asks = refl;
+    acts = takes 18 _ _ (lit< tt) (ap (λ (c : AvrState). pins c.devices.port_c (slice_index c.devices.reading.levels 2)) h.core);
+  }
+  level (suc (suc (suc zero))) b low = record {
+    free = refl;
+    asks = refl;
+    acts = takes 18 _ _ (lit< tt) (ap (λ (c : AvrState). pins c.devices.port_d (slice_index c.devices.reading.levels 3)) h.core);
+  }
+  level (suc (suc (suc (suc k)))) b low = absurd (past_ports k low)
+
+  latch : (port b : ℕ) → port < 4 → Fetched (bit.Latch port b)
+  latch zero b low = record { free = refl; asks = refl; acts = takes 18 _ _ (lit< tt) (ap (λ (c : AvrState). c.devices.port_a.latch) h.core) }
+  latch (suc zero) b low = record { free = refl; asks = refl; acts = takes 18 _ _ (lit< tt) (ap (λ (c : AvrState). c.devices.port_b.latch) h.core) }
+  latch (suc (suc zero)) b low = record { free = refl; asks = refl; acts = takes 18 _ _ (lit< tt) (ap (λ (c : AvrState). c.devices.port_c.latch) h.core) }
+  latch (suc (suc (suc zero))) b low = record { free = refl; asks = refl; acts = takes 18 _ _ (lit< tt) (ap (λ (c : AvrState). c.devices.port_d.latch) h.core) }
+  latch (suc (suc (suc (suc k)))) b low = absurd (past_ports k low)
+
+  fetches : (from : BitSource) → FetchFits from → m.place + size_of (insn_of (Fetches from)) ≤ 8192 → Fetched from
+  fetches (bit.Cell a b) fit inside = loads 18 a (lit< tt) fit inside
+  fetches (bit.Level port b) fit inside = level port b fit
+  fetches (bit.Latch port b) fit inside = latch port b fit
+
+  gives : (a r : ℕ) → (r < 32) × (a < 32) × (is_work a ≡ false) → Does (insn.Mov a r) (kind_of (Gives a r)) env m v
+  gives a r fit = record {
+    free = refl;
+    asks = refl;
+    acts = (
+      with_reg m a (see v r),
+      ap (λ n. after (with_reg m a n) Next 1) (h.file r fit.0),
+      subst (λ w. Sees (with_reg m a (see v r)) w) (put_cell a (see v r) fit.2) (sees_put m v a (see v r) fit.1 h),
+    );
+  }
+
+  latches : (port b : ℕ) (x : Bool) → port < 4 → Does (insn_of (Latches port b x)) (kind_of (Latches port b x)) env m v
+  latches zero b true low = record { free = refl; asks = refl; acts = (latched m 0 b true, refl, sees_core m v (λ c. latched c 0 b true) refl refl refl h) }
+  latches zero b false low = record { free = refl; asks = refl; acts = (latched m 0 b false, refl, sees_core m v (λ c. latched c 0 b false) refl refl refl h) }
+  latches (suc zero) b true low = record {
+    free = refl;
+    asks = refl;
+    acts =
+        (latched m 1 b true, refl, sees_core m v (λ c. latched c 1 b true) refl refl refl h);
+  }
+  latches (suc zero) b false low =
+      record { free = refl; asks = refl; acts = (latched m 1 b false, refl, sees_core m v (λ c. latched c 1 b false) refl refl refl h) }
+  latches (suc (suc zero)) b true low =
+      record { free = refl; asks = refl; acts = (latched m 2 b true, refl, sees_core m v (λ c. latched c 2 b true) refl refl refl h) }
+  latches (suc (suc zero)) b false low =
+      record { free = refl; asks = refl; acts = (latched m 2 b false, refl, sees_core m v (λ c. latched c 2 b false) refl refl refl h) }
+  latches (suc (suc (suc zero))) b true low =
+      record { free = refl; asks = refl; acts = (latched m 3 b true, refl, sees_core m v (λ c. latched c 3 b true) refl refl refl h) }
+  latches (suc (suc (suc zero))) b false low =
+      record { free = refl; asks = refl; acts = (latched m 3 b false, refl, sees_core m v (λ c. latched c 3 b false) refl refl refl h) }
+  latches (suc (suc (suc (suc k)))) b x low = absurd (past_ports k low)
+
   -- each piece does as its kind says
   pub piece_does : (p : Piece) → PieceFits p → m.place + size_of (insn_of p) ≤ 8192 → Does (insn_of p) (kind_of p) env m v
   piece_does (Plain i) fit inside = does i fit inside
-  piece_does (Loads r a) fit inside = loads r a fit.0 fit.1 inside
-  piece_does (Stores a r) fit inside = stores a r fit.0 fit.1 inside
+  piece_does (Loads r a) fit inside = loads r a fit.0 (held a fit.1) inside
+  piece_does (Stores a r) fit inside = stores a r fit.0 (held a fit.1) inside
+  piece_does (Fetches from) fit inside = fetches from fit inside
+  piece_does (Gives a r) fit inside = gives a r fit
+  piece_does (Latches port b x) fit inside = latches port b x fit.0

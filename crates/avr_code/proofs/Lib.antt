@@ -3,10 +3,13 @@ pub mod Walk
 pub mod Steps
 pub mod Effects
 pub mod Paths
+pub mod BitFacts
 pub mod Standing
 pub mod Sums
 pub mod Compares
 pub mod Primitives
+pub mod Products
+pub mod Bits
 pub mod Control
 pub mod Polling
 pub mod Whole

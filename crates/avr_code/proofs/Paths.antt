@@ -16,22 +16,24 @@ use Rattle.avr_mach.specs.Step.{at_place, insn_at, avr_step, width_of}
 use Rattle.avr_mach.specs.Words.{size_of}
 use Rattle.target_core.specs.Law.{Leads, here, on, LeadsFrom}
 use Rattle.avr_code.specs.Code.{Piece, insn_of}
-use Rattle.avr_code.proofs.Effects.{IsNear, is_near, Kind, Straight, SkipIf, Branch, Jumps, Other, kind_of, PieceFits, Does, piece_does}
+use Rattle.avr_code.proofs.Effects.{IsNear, is_near, Kind, Straight, SkipIf, Branch, Forward, Jumps, Other, kind_of, PieceFits, Does, piece_does}
 use Rattle.avr_code.proofs.Steps.{Steps, env_of, settled_by, step_is, ask_is}
 use Rattle.avr_code.proofs.View.{View, Sees, moved, sees_moved}
 use Rattle.avr_code.proofs.Walk.{HasCode, sizes}
 
--- `Near` is the fork of a branch to a place in front of it, which has to be in flash where the branch is taken
+-- `Near` is the fork of a branch to a place in front of it, which has to be in flash where the branch is taken, and `Ahead` a jump to such a place
 pub data Paths : Type 0 where
   At : (v : View) (cycles : ℕ) → Paths
   Fork : (test : Bool) (yes no : Paths) → Paths
   Near : (test : Bool) (place : ℕ) (yes no : Paths) → Paths
+  Ahead : (place : ℕ) (next : Paths) → Paths
   Lost : Paths
 
 abbrev pub bump : ℕ → Paths → Paths
 bump c (At v d) = At v (c + d)
 bump c (Fork t a b) = Fork t (bump c a) (bump c b)
 bump c (Near t p a b) = Near t p (bump c a) (bump c b)
+bump c (Ahead p a) = Ahead p (bump c a)
 bump c Lost = Lost
 
 abbrev pub head_size : List Piece → ℕ
@@ -51,6 +53,7 @@ paths (p ∷ ps) zero v =
           (bump 1 (paths ps 0 (moved v (v.core.place + size_of (insn_of p)) 1)))
       | Branch test k ↦ Near (test v) (v.core.place + 1 + k) (bump 2 (paths ps k (moved v (v.core.place + 1 + k) 2)))
           (bump 1 (paths ps 0 (moved v (v.core.place + size_of (insn_of p)) 1)))
+      | Forward k ↦ Ahead (v.core.place + 1 + k) (bump 2 (paths ps k (moved v (v.core.place + 1 + k) 2)))
       | Jumps place cycles ↦ At (moved v place cycles) (cycles + 0)
       | Other ↦ Lost
     ]
@@ -59,6 +62,7 @@ abbrev pub AllGood : (cycles : ℕ) → (View → Type 0) → Paths → Type 0
 AllGood cycles E (At v cost) = (cost ≤ cycles) × E v
 AllGood cycles E (Fork t a b) = (t ≡ true → AllGood cycles E a) × (t ≡ false → AllGood cycles E b)
 AllGood cycles E (Near t p a b) = (t ≡ true → (p < 8192) × AllGood cycles E a) × (t ≡ false → AllGood cycles E b)
+AllGood cycles E (Ahead p a) = (p < 8192) × AllGood cycles E a
 AllGood cycles E Lost = ⊥
 
 abbrev pub AllPiecesFit : List Piece → Type 0
@@ -77,6 +81,7 @@ module _ (flash : List ℕ) (T : AvrState → Type 0) where
   Follows m (At v c) = (left : ℕ) → Onward v left → Leads Steps' T m (c + left) []
   Follows m (Fork t a b) = (t ≡ true → Follows m a) × (t ≡ false → Follows m b)
   Follows m (Near t p a b) = (t ≡ true → p < 8192 → Follows m a) × (t ≡ false → Follows m b)
+  Follows m (Ahead p a) = p < 8192 → Follows m a
   Follows m Lost = Unit {0}
 
   -- the same, and it takes a step
@@ -84,6 +89,7 @@ module _ (flash : List ℕ) (T : AvrState → Type 0) where
   Firsts m (At v c) = (left : ℕ) → Onward v left → (ask_of Steps' m ≡ ask.Nothing) × LeadsFrom Steps' T (Steps' m false no_reading) (c + left) []
   Firsts m (Fork t a b) = (t ≡ true → Firsts m a) × (t ≡ false → Firsts m b)
   Firsts m (Near t p a b) = (t ≡ true → p < 8192 → Firsts m a) × (t ≡ false → Firsts m b)
+  Firsts m (Ahead p a) = p < 8192 → Firsts m a
   Firsts m Lost = Unit {0}
 
   add_first : (m next : AvrState) (c : ℕ) (w : Paths) → Steps flash m next c → Follows next w → Firsts m (bump c w)
@@ -101,6 +107,7 @@ module _ (flash : List ℕ) (T : AvrState → Type 0) where
   )
   add_first m next c (Fork t a b) s f = (λ e. add_first m next c a s (f.0 e), λ e. add_first m next c b s (f.1 e))
   add_first m next c (Near t p a b) s f = (λ e low. add_first m next c a s (f.0 e low), λ e. add_first m next c b s (f.1 e))
+  add_first m next c (Ahead p a) s f = λ low. add_first m next c a s (f low)
   add_first m next c Lost s f = tt
 
   pub to_leads : (m : AvrState) (budget : ℕ) → (ask_of Steps' m ≡ ask.Nothing) × LeadsFrom Steps' T (Steps' m false no_reading) budget [] →
@@ -112,6 +119,7 @@ module _ (flash : List ℕ) (T : AvrState → Type 0) where
   as_follows m (At v c) f = λ left h. to_leads m (c + left) (f left h)
   as_follows m (Fork t a b) f = (λ e. as_follows m a (f.0 e), λ e. as_follows m b (f.1 e))
   as_follows m (Near t p a b) f = (λ e low. as_follows m a (f.0 e low), λ e. as_follows m b (f.1 e))
+  as_follows m (Ahead p a) f = λ low. as_follows m a (f low)
   as_follows m Lost f = tt
 
   -- from every machine at so many words behind a place
@@ -165,6 +173,7 @@ module _ (flash : List ℕ) (T : AvrState → Type 0) where
             (bump 1 (paths ps 0 (moved v (v.core.place + size_of i) 1)))
         | Branch test k ↦ Near (test v) (v.core.place + 1 + k) (bump 2 (paths ps k (moved v (v.core.place + 1 + k) 2)))
             (bump 1 (paths ps 0 (moved v (v.core.place + size_of i) 1)))
+        | Forward k ↦ Ahead (v.core.place + 1 + k) (bump 2 (paths ps k (moved v (v.core.place + 1 + k) 2)))
         | Jumps place cycles ↦ At (moved v place cycles) (cycles + 0)
         | Other ↦ Lost
       ])
@@ -195,6 +204,14 @@ module _ (flash : List ℕ) (T : AvrState → Type 0) where
         add_first m _ 1 _ (quiet_step i m _ 1 low stands v _ d e)
         (rest 0 _ _ (sees_moved m v (v.core.place + size_of i) 1 h) (omega (arith, vat))),
   )
+  on_kind i begin ps m v (Forward k) h at vat code rest d near low stands =
+      λ inside.
+      let target : (m.place + 1 + k) % 8192 ≡ v.core.place + 1 + k = omega (arith, at, vat, inside) in
+      let e = ap (settled_by flash (m.place + size_of i)) d.acts
+      ∙ ap (λ b. WentTo (at_place m (if b then (m.place + 1 + k) % 8192 else (m.place + 1 + k + 8064) % 8192) 2) 2) (lt-ltb k 64 near.1)
+      ∙ ap (λ n. WentTo (at_place m n 2) 2) target in
+      add_first m _ 2 _ (quiet_step i m _ 2 low stands v _ d e)
+      (rest k _ _ (sees_moved m v (v.core.place + 1 + k) 2 h) (let one : size_of i ≡ 1 = near.0 in omega (arith, vat, one)))
   on_kind i begin ps m v (Jumps place cycles) h at vat code rest d near low stands =
       let e = ap (settled_by flash (m.place + size_of i)) d.acts in
       add_first m (at_place m place cycles) cycles (At (moved v place cycles) 0) (quiet_step i m (at_place m place cycles) cycles low stands v _ d e)
@@ -246,6 +263,7 @@ module _ (flash : List ℕ) (T : AvrState → Type 0) where
   one_good m cycles E (Fork false a b) end f good = one_good m cycles E b end (f.1 refl) (good.1 refl)
   one_good m cycles E (Near true p a b) end f good = let g = good.0 refl in one_good m cycles E a end (f.0 refl g.0) g.1
   one_good m cycles E (Near false p a b) end f good = one_good m cycles E b end (f.1 refl) (good.1 refl)
+  one_good m cycles E (Ahead p a) end f good = one_good m cycles E a end (f good.0) good.1
   one_good m cycles E Lost end f good = absurd good
 
   -- where all paths are good, the machine comes to an end of T

@@ -25,7 +25,7 @@ use Rattle.avr_mach.specs.State as state
 use Rattle.avr_mach.specs.Step.{avr_step, insn_at, at_place, width_of}
 use Rattle.target_core.specs.Law.{here, LeadsFrom, IsReady, Layout}
 use Rattle.avr_code.specs.Code.{poll_code}
-use Rattle.avr_code.specs.Stands.{StandsAt}
+use Rattle.avr_code.specs.Stands.{Board, StandsAt}
 use Rattle.avr_code.specs.Target.{avr_target}
 use Rattle.avr_code.proofs.Control.{WentTo, one_step, then_step}
 use Rattle.avr_code.proofs.Primitives.{flag_kept}
@@ -43,7 +43,8 @@ polled_by env m flag timing =
 back_jump : (p : ℕ) → p < 8192 → (p + 1 + 1 + 1 + 4093 + 4096) % 8192 ≡ p
 back_jump p low = omega (arith, low)
 
-module _ (lay : Layout) (m : AvrState) (s : Bytes) (l : ℕ) (ready : IsReady avr_target lay s (CyclePoll l)) (st : StandsAt lay.places m s) where
+module _ (board : Board) (lay : Layout) (m : AvrState) (s : Bytes) (l : ℕ) (ready : IsReady (avr_target board) lay s (CyclePoll l))
+    (st : StandsAt board lay.places m s) where
   abbrev Place : ℕ
   Place = slice_index lay.places s.place
 
@@ -91,23 +92,24 @@ module _ (lay : Layout) (m : AvrState) (s : Bytes) (l : ℕ) (ready : IsReady av
   abbrev Again : AvrState
   Again = at_place Skipped m.place 2
 
-  again : StandsAt lay.places Again s
+  again : StandsAt board lay.places Again s
   again =
       let v = view_of m in
       let seen = view_seen m st.shows.regs st.shows.sram in
-      let has = to_view lay.places m v s seen st in
+      let has = to_view board lay.places m v s seen st in
       let seen1 = sees_moved _ _ (m.place + 1) 1 (sees_put m v 16 0 (lit< tt) seen) in
       let seen2 = sees_moved _ _ (m.place + 1 + 1) 1 seen1 in
       let seen3 = sees_moved _ _ m.place 2 seen2 in
       let f1 = flag_kept v.core (m.place + 1) 1 s.store.flag has.has.flag in
       let f2 = flag_kept (at_place v.core (m.place + 1) 1) (m.place + 1 + 1) 1 s.store.flag f1 in
       let f3 = flag_kept (at_place (at_place v.core (m.place + 1) 1) (m.place + 1 + 1) 1) m.place 2 s.store.flag f2 in
-      from_view lay.places _ _ s seen3 (record {
-        has = has_same lay.places v _ s (alike v _ refl (λ port. refl) refl refl refl refl) has.has s.store.flag s.place refl f3;
+      from_view board lay.places _ _ s seen3 (record {
+        has = has_same board lay.places v _ s (alike v _ refl refl refl (λ port. refl) refl refl refl refl) has.has s.store.flag s.place refl f3;
         at = st.at;
       })
 
-  pub waits : LeadsFrom (steps_over (avr_step mega16) lay.flash) (λ m'. StandsAt lay.places m' s) (steps_over (avr_step mega16) lay.flash m false no_reading)
+  pub waits : LeadsFrom (steps_over (avr_step mega16) lay.flash) (λ m'. StandsAt board lay.places m' s)
+      (steps_over (avr_step mega16) lay.flash m false no_reading)
       4 []
   waits = record {
     went = record { next = Asked; cycles = 1; poll = CycleNotReady; sent = [] };
@@ -116,8 +118,8 @@ module _ (lay : Layout) (m : AvrState) (s : Bytes) (l : ℕ) (ready : IsReady av
     bound = lit≤ tt;
     rest = [];
     said = refl;
-    further = then_step lay.flash (λ m'. StandsAt lay.places m' s) Asked Skipped 1 2 skip
-        (then_step lay.flash (λ m'. StandsAt lay.places m' s) Skipped Again 2 0 jump (here again));
+    further = then_step lay.flash (λ m'. StandsAt board lay.places m' s) Asked Skipped 1 2 skip
+        (then_step lay.flash (λ m'. StandsAt board lay.places m' s) Skipped Again 2 0 jump (here again));
   }
     where
       two_behind : (n p : ℕ) → n ≡ p → n + 1 + 1 ≡ p + 1 + 1
@@ -144,28 +146,33 @@ module _ (lay : Layout) (m : AvrState) (s : Bytes) (l : ℕ) (ready : IsReady av
     Cleared = at_place (record Behind { devices = record Behind.devices { timer = record Behind.devices.timer { flag = false } } }) (m.place + 1 + 1 + 1 + 1)
         1
 
-    cleared : StandsAt lay.places Cleared (act lay.code (CyclePoll l) s true r).next
+    cleared : StandsAt board lay.places Cleared (act lay.code (CyclePoll l) s true r).next
     cleared =
         let v = view_of m in
         let seen = view_seen m st.shows.regs st.shows.sram in
-        let has = (to_view lay.places m v s seen st).has in
+        let has = (to_view board lay.places m v s seen st).has in
         let seen0 = sees_core m v (λ c. record c { devices = record c.devices { reading = r; timer = record c.devices.timer { flag = true } } }) refl refl
         refl seen in
         let seen1 = sees_moved _ _ (m.place + 1) 1 (sees_put _ _ 16 16 (lit< tt) seen0) in
         let seen2 = sees_moved _ _ (m.place + 1 + 1 + 1) 2 seen1 in
         let seen3 = sees_core _ _ (λ c. record c { devices = record c.devices { timer = record c.devices.timer { flag = false } } }) refl refl refl seen2 in
         let seen4 = sees_moved _ _ (m.place + 1 + 1 + 1 + 1) 1 seen3 in
-        from_view lay.places _ _ _ seen4 (record {
+        from_view board lay.places _ _ _ seen4 (record {
           has = record {
             holds = record {
               all = has.holds.all;
               scratch = has.holds.scratch;
+              target = has.holds.target;
+              ports = has.holds.ports;
+              eeprom = has.holds.eeprom;
               cells = has.holds.cells;
+              wires = has.holds.wires;
               bytes = has.holds.bytes;
               latches = has.holds.latches;
               reading = refl;
             };
-            started = λ e. record { zero = (has.started e).zero; timing = (has.started e).timing; quiet = refl };
+            settings = has.settings;
+            started = λ e. record { zero = (has.started e).zero; directions = (has.started e).directions; timing = (has.started e).timing; quiet = refl };
             flag = tt;
             back = has.back;
           };
@@ -175,7 +182,7 @@ module _ (lay : Layout) (m : AvrState) (s : Bytes) (l : ℕ) (ready : IsReady av
         four_behind : (n p q : ℕ) → n ≡ p → q ≡ p + 4 → n + 1 + 1 + 1 + 1 ≡ q
         four_behind n p q e f = omega (arith, e, f)
 
-    pub leaves : LeadsFrom (steps_over (avr_step mega16) lay.flash) (λ m'. StandsAt lay.places m' (act lay.code (CyclePoll l) s true r).next)
+    pub leaves : LeadsFrom (steps_over (avr_step mega16) lay.flash) (λ m'. StandsAt board lay.places m' (act lay.code (CyclePoll l) s true r).next)
         (steps_over (avr_step mega16) lay.flash m true r) 4 []
     leaves = record {
       went = record { next = Taken; cycles = 1; poll = CycleReady; sent = [] };
@@ -184,8 +191,8 @@ module _ (lay : Layout) (m : AvrState) (s : Bytes) (l : ℕ) (ready : IsReady av
       bound = lit≤ tt;
       rest = [];
       said = refl;
-      further = then_step lay.flash (λ m'. StandsAt lay.places m' (act lay.code (CyclePoll l) s true r).next) Taken Behind 2 1 skip
-          (then_step lay.flash (λ m'. StandsAt lay.places m' (act lay.code (CyclePoll l) s true r).next) Behind Cleared 1 0 clear (here cleared));
+      further = then_step lay.flash (λ m'. StandsAt board lay.places m' (act lay.code (CyclePoll l) s true r).next) Taken Behind 2 1 skip
+          (then_step lay.flash (λ m'. StandsAt board lay.places m' (act lay.code (CyclePoll l) s true r).next) Behind Cleared 1 0 clear (here cleared));
     }
       where
         behind_two : (n p : ℕ) → n ≡ p → n + 1 + 1 ≡ p + 1 + 1

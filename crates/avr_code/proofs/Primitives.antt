@@ -9,6 +9,8 @@ use Rattle.runs.specs.Chip.{steps_over}
 use Rattle.byte_code.specs.declared.prim.BytePrim.{BytePrim}
 use Rattle.byte_code.specs.declared.prim.BytePrim.TheVariants.{Label, Jump, JumpWhere, Byte, Word, Compare}
 use Rattle.byte_code.specs.declared.prim.Test.TheVariants as test
+use Rattle.byte_code.specs.declared.prim.BitSource.{BitSource}
+use Rattle.byte_code.specs.declared.prim.BitSource.TheVariants as bit
 use Rattle.byte_code.specs.declared.prim.ByteOp.TheVariants as bytes
 use Rattle.byte_code.specs.declared.prim.WordOp.TheVariants as words
 use Rattle.byte_code.specs.declared.prim.WordSource.TheVariants as source
@@ -33,12 +35,12 @@ use Rattle.avr_mach.specs.Step.{avr_step, at_place}
 use Rattle.avr_mach.specs.Words.{size_of}
 use Rattle.avr_devices.specs.Part.{mega16}
 use Rattle.target_core.specs.Law.{LeadsFrom, Moves, IsReady, Layout, HasAt}
-use Rattle.avr_code.specs.Code.{Piece, Plain, Loads, Stores, insn_of, code_of, words_of, size_in, word_count, cycle_count, jump_on, status_bit}
-use Rattle.avr_code.specs.Stands.{IsCell, HasFlag, StandsAt}
+use Rattle.avr_code.specs.Code.{Piece, Plain, Loads, Stores, Fetches, Gives, Latches, insn_of, code_of, words_of, size_in, word_count, cycle_count, jump_on, status_bit}
+use Rattle.avr_code.specs.Stands.{Board, IsCell, HasFlag, StandsAt}
 use Rattle.avr_code.specs.Target.{avr_target}
 use Rattle.avr_code.proofs.Compares.{equal_words, below_words, less_words}
-use Rattle.avr_code.proofs.Effects.{InsnFits, PieceFits, result}
-use Rattle.avr_code.proofs.Paths.{Paths, At, Fork, Near, Lost, bump, paths, AllGood, AllPiecesFit, good_paths}
+use Rattle.avr_code.proofs.Effects.{InsnFits, PieceFits, FetchFits, result}
+use Rattle.avr_code.proofs.Paths.{Paths, At, Fork, Near, Ahead, Lost, bump, paths, AllGood, AllPiecesFit, good_paths}
 use Rattle.avr_code.proofs.Standing.{Has, Alike, ViewStands, view_of, view_seen, to_view, from_view, alike, has_same, has_cell, has_word}
 use Rattle.avr_code.proofs.Sums.{added_low, added_high, more_low, more_high, less_low, less_high, taken_low, taken_high, word_low, word_high}
 use Rattle.avr_code.proofs.View.{View, see, changed, moved, set_index}
@@ -69,7 +71,7 @@ insn_fields (insn.Brbs s k) fit = (fit.0, (let e = fit.1 in omega (arith, e)))
 insn_fields (insn.Brbc s k) fit = (fit.0, (let e = fit.1 in omega (arith, e)))
 insn_fields (insn.Ror d) fit = absurd fit
 insn_fields (insn.Bclr s) fit = absurd fit
-insn_fields (insn.Rjmp k) fit = absurd fit
+insn_fields (insn.Rjmp k) fit = omega (arith, fit)
 insn_fields (insn.Rcall k) fit = absurd fit
 insn_fields (insn.Call place) fit = absurd fit
 insn_fields insn.Ret fit = absurd fit
@@ -86,6 +88,14 @@ insn_fields (insn.Std q r) fit = absurd fit
 insn_fields (insn.St r) fit = absurd fit
 insn_fields insn.Nop fit = absurd fit
 
+fetch_fields : (from : BitSource) → FetchFits from → FieldsFit (insn_of (Fetches from))
+fetch_fields (bit.Cell a b) (inl low) =
+    subst (λ t. FieldsFit (if t then insn.Mov 18 a else insn.Lds 18 a)) (sym (lt-ltb a 32 low.0)) (lit< tt, low.0)
+fetch_fields (bit.Cell a b) (inr high) = let e = high.0 in let f = high.1 in
+    subst (λ t. FieldsFit (if t then insn.Mov 18 a else insn.Lds 18 a)) (sym (le-ltb a 32 (omega (arith, e)))) (lit< tt, omega (arith, f))
+fetch_fields (bit.Level port b) fit = (lit< tt, omega arith)
+fetch_fields (bit.Latch port b) fit = (lit< tt, omega arith)
+
 piece_fields : (p : Piece) → PieceFits p → FieldsFit (insn_of p)
 piece_fields (Plain i) fit = insn_fields i fit
 piece_fields (Loads r a) fit = by fit.1
@@ -94,6 +104,10 @@ piece_fields (Loads r a) fit = by fit.1
     by (inl low) = subst (λ b. FieldsFit (if b then insn.Mov r a else insn.Lds r a)) (sym (lt-ltb a 32 low.0)) (fit.0, low.0)
     by (inr high) = let e = high.0 in let f = high.1 in
         subst (λ b. FieldsFit (if b then insn.Mov r a else insn.Lds r a)) (sym (le-ltb a 32 (omega (arith, e)))) (fit.0, omega (arith, f))
+piece_fields (Fetches from) fit = fetch_fields from fit
+piece_fields (Gives a r) fit = (fit.1, fit.0)
+piece_fields (Latches port b true) fit = (omega arith, fit.1)
+piece_fields (Latches port b false) fit = (omega arith, fit.1)
 piece_fields (Stores a r) fit = by fit.1
   where
     by : IsCell a → FieldsFit (if nat_lt a 32 then insn.Mov a r else insn.Sts a r)
@@ -105,22 +119,23 @@ all_fields : (ps : List Piece) → AllPiecesFit ps → AllFit ps
 all_fields [] fit = tt
 all_fields (p ∷ ps) fit = (piece_fields p fit.0, all_fields ps fit.1)
 
-good_bump : (c n : ℕ) (E : View → Type 0) (w : Paths) → AllGood n E w → AllGood (c + n) E (bump c w)
+pub good_bump : (c n : ℕ) (E : View → Type 0) (w : Paths) → AllGood n E w → AllGood (c + n) E (bump c w)
 good_bump c n E (At v d) g = (let le = g.0 in omega (arith, le), g.1)
 good_bump c n E (Fork t a b) g = (λ e. good_bump c n E a (g.0 e), λ e. good_bump c n E b (g.1 e))
 good_bump c n E (Near t p a b) g = (λ e. ((g.0 e).0, good_bump c n E a (g.0 e).1), λ e. good_bump c n E b (g.1 e))
+good_bump c n E (Ahead p a) g = (g.0, good_bump c n E a g.1)
 good_bump c n E Lost g = g
 
-is_false : (b : Bool) → not b ≡ true → b ≡ false
+pub is_false : (b : Bool) → not b ≡ true → b ≡ false
 is_false true e = absurd (true≢false (sym e))
 is_false false e = refl
 
-is_true : (b : Bool) → not b ≡ false → b ≡ true
+pub is_true : (b : Bool) → not b ≡ false → b ≡ true
 is_true true e = refl
 is_true false e = absurd (true≢false e)
 
 -- a jump that goes by a bit of the status register
-jump_good : (cycles : ℕ) (E : View → Type 0) (v : View) (b : ℕ) (is : Bool) (place : ℕ) → 4 ≤ cycles →
+pub jump_good : (cycles : ℕ) (E : View → Type 0) (v : View) (b : ℕ) (is : Bool) (place : ℕ) → 4 ≤ cycles →
     (flag v.core b ≡ not is → (v.core.place + 1 + 2 < 8192) × E (moved v (v.core.place + 1 + 2) 2)) →
     (flag v.core b ≡ is → E (moved (moved v (v.core.place + 1) 1) place 3)) → AllGood cycles E (paths (jump_on b is place) 0 v)
 jump_good cycles E v b true place le past there = (
@@ -132,7 +147,7 @@ jump_good cycles E v b false place le past there = (
   λ t. (omega (arith, le), there t),
 )
 
-le_more : (n : ℕ) → n ≤ n + 0
+pub le_more : (n : ℕ) → n ≤ n + 0
 le_more n = omega arith
 
 two_on : (n a b p q : ℕ) → n ≡ p → q ≡ p + (a + (b + 0)) → n + a + b ≡ q
@@ -147,10 +162,10 @@ seven_on n a b x y p q e f = omega (arith, e, f)
 eight_on : (n a b c d x y p q : ℕ) → n ≡ p → q ≡ p + (a + (b + (c + (d + (1 + (1 + (x + (y + 0)))))))) → n + a + b + c + d + 1 + 1 + x + y ≡ q
 eight_on n a b c d x y p q e f = omega (arith, e, f)
 
-abbrev load_size : ℕ → ℕ → ℕ
+abbrev pub load_size : ℕ → ℕ → ℕ
 load_size r a = size_of (insn_of (Loads r a))
 
-abbrev store_size : ℕ → ℕ → ℕ
+abbrev pub store_size : ℕ → ℕ → ℕ
 store_size a r = size_of (insn_of (Stores a r))
 
 zero_on : (n p q : ℕ) → n ≡ p → q ≡ p + 0 → n ≡ q
@@ -162,19 +177,19 @@ four_words n p q e f = omega (arith, e, f)
 three_words : (n p q : ℕ) → n ≡ p → q ≡ p + 3 → n + 1 + 2 ≡ q
 three_words n p q e f = omega (arith, e, f)
 
-same_yes : (b is : Bool) → b ≡ is → same b is ≡ true
+pub same_yes : (b is : Bool) → b ≡ is → same b is ≡ true
 same_yes true true e = refl
 same_yes false false e = refl
 same_yes true false e = absurd (true≢false e)
 same_yes false true e = absurd (true≢false (sym e))
 
-same_no : (b is : Bool) → b ≡ not is → same b is ≡ false
+pub same_no : (b is : Bool) → b ≡ not is → same b is ≡ false
 same_no true false e = refl
 same_no false true e = refl
 same_no true true e = absurd (true≢false e)
 same_no false false e = absurd (true≢false (sym e))
 
-flag_value : (c : AvrState) (k : FlagKind) (o : Option Flag) → IsOfKind o k → HasFlag c o → flag c (status_bit k) ≡ value_of o
+pub flag_value : (c : AvrState) (k : FlagKind) (o : Option Flag) → IsOfKind o k → HasFlag c o → flag c (status_bit k) ≡ value_of o
 flag_value c k None fits has = absurd fits
 flag_value c k (Some f) fits has = ap (λ j. flag c (status_bit j)) (sym fits) ∙ has
 
@@ -182,7 +197,7 @@ pub flag_kept : (c : AvrState) (place cycles : ℕ) (o : Option Flag) → HasFla
 flag_kept c place cycles None has = has
 flag_kept c place cycles (Some f) has = has
 
-status_low : (k : FlagKind) → status_bit k < 8
+pub status_low : (k : FlagKind) → status_bit k < 8
 status_low kind.Less = lit< tt
 status_low kind.Equal = lit< tt
 status_low kind.Below = lit< tt
@@ -192,8 +207,8 @@ abbrev counted : View → View
 counted v = moved (result v (λ c. with_result c 21 ((see v 21 + 255) % 256) (see v 21 == 128)) 21 ((see v 21 + 255) % 256)) (v.core.place + 1) 1
 
 -- the place of the byte state does not count
-elsewhere : (places : List ℕ) (w : View) (s : Bytes) (q : ℕ) → Has places w s → Has places w (record s { place = q })
-elsewhere places w s q h = record { holds = h.holds; started = h.started; flag = h.flag; back = h.back }
+pub elsewhere : (board : Board) (places : List ℕ) (w : View) (s : Bytes) (q : ℕ) → Has board places w s → Has board places w (record s { place = q })
+elsewhere board places w s q h = record { holds = h.holds; settings = h.settings; started = h.started; flag = h.flag; back = h.back }
 
 six_on : (n a b c d p q : ℕ) → n ≡ p → q ≡ p + (a + (b + (c + (d + (1 + (1 + 0)))))) → n + a + b + c + d + 1 + 1 ≡ q
 six_on n a b c d p q e f = omega (arith, e, f)
@@ -216,31 +231,31 @@ less_flag : (a b c d x z y w : ℕ) → x ≡ a → z ≡ b → y ≡ c → w �
 less_flag a b c d x z y w e f g h ha hb hc hd =
     ap₂ (λ x z. sign_of x z y w) e f ∙ ap₂ (λ y w. sign_of a b y w) g h ∙ less_words a b c d ha hb hc hd
 
-module _ (lay : Layout) (m : AvrState) (s : Bytes) where
-  abbrev Ready : BytePrim → Type 0
-  Ready p = IsReady avr_target lay s p
+module _ (board : Board) (lay : Layout) (m : AvrState) (s : Bytes) where
+  abbrev pub Ready : BytePrim → Type 0
+  Ready p = IsReady (avr_target board) lay s p
 
-  abbrev Ends : BytePrim → View → Type 0
-  Ends p w = ViewStands lay.places w (act lay.code p s false no_reading).next
+  abbrev pub Ends : BytePrim → View → Type 0
+  Ends p w = ViewStands board lay.places w (act lay.code p s false no_reading).next
 
-  abbrev Good : BytePrim → List Piece → Type 0
-  Good p ps = (v : View) → ViewStands lay.places v s → AllGood (cycle_count p) (Ends p) (paths ps 0 v)
+  abbrev pub Good : BytePrim → List Piece → Type 0
+  Good p ps = (v : View) → ViewStands board lay.places v s → AllGood (cycle_count p) (Ends p) (paths ps 0 v)
 
   -- code all of whose paths are good
-  coded : (p : BytePrim) (q : Piece) (ps : List Piece) → Ready p → code_of p lay.labels ≡ q ∷ ps → size_in (q ∷ ps) ≡ word_count p →
-      (act lay.code p s false no_reading).sent ≡ [] → AllPiecesFit (q ∷ ps) → StandsAt lay.places m s → Good p (q ∷ ps) →
-      Moves (steps_over (avr_step mega16) lay.flash) (StandsAt lay.places) m (cycle_count p) s (act lay.code p s false no_reading)
+  pub coded : (p : BytePrim) (q : Piece) (ps : List Piece) → Ready p → code_of p lay.labels ≡ q ∷ ps → size_in (q ∷ ps) ≡ word_count p →
+      (act lay.code p s false no_reading).sent ≡ [] → AllPiecesFit (q ∷ ps) → StandsAt board lay.places m s → Good p (q ∷ ps) →
+      Moves (steps_over (avr_step mega16) lay.flash) (StandsAt board lay.places) m (cycle_count p) s (act lay.code p s false no_reading)
   coded p q ps ready is size quiet fit st good =
       let v = view_of m in
       let seen = view_seen m st.shows.regs st.shows.sram in
-      let has = to_view lay.places m v s seen st in
+      let has = to_view board lay.places m v s seen st in
       let place = slice_index lay.places s.place in
       let inside : place + size_in (q ∷ ps) ≤ 8192 = (let a = ready.next in let b = ready.inside in omega (arith, a, b, size)) in
       let loaded : HasAt lay.flash place (words_of (q ∷ ps)) = subst (λ l. HasAt lay.flash place (words_of l)) is ready.loaded in
       let code = code_held (q ∷ ps) lay.flash place (all_fields (q ∷ ps) fit) inside loaded in
-      let T : AvrState → Type 0 = λ m'. StandsAt lay.places m' (act lay.code p s false no_reading).next in
+      let T : AvrState → Type 0 = λ m'. StandsAt board lay.places m' (act lay.code p s false no_reading).next in
       let went = good_paths lay.flash T q ps m v (cycle_count p) (Ends p) fit (subst (λ n. HasCode lay.flash n (q ∷ ps)) (sym has.at) code) seen
-      (λ m' w sees ends. from_view lay.places m' w (act lay.code p s false no_reading).next sees ends) (good v has) in
+      (λ m' w sees ends. from_view board lay.places m' w (act lay.code p s false no_reading).next sees ends) (good v has) in
       inl (
         went.0,
         subst (λ l. LeadsFrom (steps_over (avr_step mega16) lay.flash) T (steps_over (avr_step mega16) lay.flash m false no_reading) (cycle_count p) l)
@@ -248,33 +263,36 @@ module _ (lay : Layout) (m : AvrState) (s : Bytes) where
       )
 
   abbrev pub Goes : BytePrim → Type 0
-  Goes p = Moves (steps_over (avr_step mega16) lay.flash) (StandsAt lay.places) m (cycle_count p) s (act lay.code p s false no_reading)
+  Goes p = Moves (steps_over (avr_step mega16) lay.flash) (StandsAt board lay.places) m (cycle_count p) s (act lay.code p s false no_reading)
 
-  pub put_byte : (to x : ℕ) → Ready (Byte (bytes.Put to x)) → StandsAt lay.places m s → Goes (Byte (bytes.Put to x))
+  pub put_byte : (to x : ℕ) → Ready (Byte (bytes.Put to x)) → StandsAt board lay.places m s → Goes (Byte (bytes.Put to x))
   put_byte to x ready st = coded (Byte (bytes.Put to x)) (Plain (insn.Ldi 16 x)) (Stores to 16 ∷ []) ready refl refl refl
       ((lit≤ tt, lit< tt, ready.admitted.1), ((lit< tt, ready.admitted.0), tt)) st
       (λ v h. (
         le_more _,
         record {
-          has = has_cell lay.places v _ s (alike v _ refl (λ port. refl) refl refl refl refl) h.has to x x ready.admitted.0 refl refl ready.admitted.1;
+          has = has_cell board lay.places v _ s (alike v _ refl refl refl
+              (λ port. refl) refl refl refl refl) h.has to x x ready.admitted.0 refl refl ready.admitted.1;
           at = two_on v.core.place 1 (store_size to 16) _ _ h.at ready.next;
         },
       ))
 
-  pub copy_byte : (to from : ℕ) → Ready (Byte (bytes.Copy to from)) → StandsAt lay.places m s → Goes (Byte (bytes.Copy to from))
+  pub copy_byte : (to from : ℕ) → Ready (Byte (bytes.Copy to from)) → StandsAt board lay.places m s → Goes (Byte (bytes.Copy to from))
   copy_byte to from ready st = coded (Byte (bytes.Copy to from)) (Loads 16 from) (Stores to 16 ∷ []) ready refl refl refl
       ((lit< tt, ready.admitted.1), ((lit< tt, ready.admitted.0), tt)) st
       (λ v h. (
         le_more _,
         record {
-          has = has_cell lay.places v _ s (alike v _ refl (λ port. refl) refl refl refl refl) h.has to (v.cells from) (cell s.store from) ready.admitted.0
+          has = has_cell board lay.places v _ s (alike v _ refl refl refl (λ port. refl) refl refl refl refl) h.has to (v.cells from)
+              (cell s.store from) ready.admitted.0
               refl
               (h.has.holds.cells from ready.admitted.1) (h.has.holds.bytes from);
           at = two_on v.core.place (load_size 16 from) (store_size to 16) _ _ h.at ready.next;
         },
       ))
 
-  pub move_cells : (to : ℕ) (from : ℕ) → Ready (Word (words.Move to (source.Cells from))) → StandsAt lay.places m s → Goes (Word (words.Move to (source.Cells
+  pub move_cells : (to : ℕ) (from : ℕ) → Ready (Word (words.Move to (source.Cells from))) → StandsAt board lay.places m s →
+      Goes (Word (words.Move to (source.Cells
       from)))
   move_cells to from ready st = coded (Word (words.Move to (source.Cells from))) (Loads 16 from) (Loads 17 (from + 1) ∷ Stores to 16 ∷ Stores (to + 1) 17 ∷
       []) ready refl refl refl
@@ -282,7 +300,8 @@ module _ (lay : Layout) (m : AvrState) (s : Bytes) where
       (λ v h. (
         le_more _,
         record {
-          has = has_word lay.places v _ s (alike v _ refl (λ port. refl) refl refl refl refl) h.has to _ _ (word_from s.store (source.Cells from))
+          has = has_word board lay.places v _ s (alike v _ refl refl refl (λ port. refl) refl refl refl refl) h.has to _ _
+              (word_from s.store (source.Cells from))
               ready.admitted.0.0 ready.admitted.0.1 refl
               (word_low (cell s.store from) (cell s.store (from + 1)) _ (h.has.holds.cells from ready.admitted.1.0) (h.has.holds.bytes from))
               (word_high (cell s.store from) (cell s.store (from + 1)) _ (h.has.holds.cells (from + 1) ready.admitted.1.1) (h.has.holds.bytes from)
@@ -291,7 +310,7 @@ module _ (lay : Layout) (m : AvrState) (s : Bytes) where
         },
       ))
 
-  pub move_number : (to : ℕ) (from_low from_high : ℕ) → Ready (Word (words.Move to (source.Number from_low from_high))) → StandsAt lay.places m s → Goes
+  pub move_number : (to : ℕ) (from_low from_high : ℕ) → Ready (Word (words.Move to (source.Number from_low from_high))) → StandsAt board lay.places m s → Goes
       (Word (words.Move to (source.Number from_low from_high)))
   move_number to from_low from_high ready st = coded (Word (words.Move to (source.Number from_low from_high))) (Plain (insn.Ldi 16 from_low))
       (Plain (insn.Ldi 17 from_high) ∷ Stores to 16 ∷ Stores (to + 1) 17 ∷ []) ready refl refl refl (
@@ -310,7 +329,8 @@ module _ (lay : Layout) (m : AvrState) (s : Bytes) where
       (λ v h. (
         le_more _,
         record {
-          has = has_word lay.places v _ s (alike v _ refl (λ port. refl) refl refl refl refl) h.has to _ _ (word_from s.store (source.Number from_low
+          has = has_word board lay.places v _ s (alike v _ refl refl refl (λ port. refl) refl refl refl refl) h.has to _ _
+              (word_from s.store (source.Number from_low
               from_high)) ready.admitted.0.0 ready.admitted.0.1 refl
               (word_low from_low from_high _ refl ready.admitted.1.0)
               (word_high from_low from_high _ refl ready.admitted.1.0 ready.admitted.1.1);
@@ -318,7 +338,7 @@ module _ (lay : Layout) (m : AvrState) (s : Bytes) where
         },
       ))
 
-  pub increment : (to : ℕ) → Ready (Word (words.Increment to)) → StandsAt lay.places m s → Goes (Word (words.Increment to))
+  pub increment : (to : ℕ) → Ready (Word (words.Increment to)) → StandsAt board lay.places m s → Goes (Word (words.Increment to))
   increment to ready st = coded (Word (words.Increment to)) (Loads 16 to) (Loads 17 (to + 1) ∷ Plain (insn.Bset 0) ∷ Plain (insn.Adc 16 1) ∷ Plain (insn.Adc
       17 1) ∷ Stores to 16 ∷ Stores (to + 1) 17 ∷ []) ready refl refl refl (
         (lit< tt, ready.admitted.0),
@@ -348,7 +368,7 @@ module _ (lay : Layout) (m : AvrState) (s : Bytes) where
       (λ v h. (
         le_more _,
         record {
-          has = has_word lay.places v _ s (alike v _ refl (λ port. refl) refl refl refl refl) h.has to _ _ ((word_at s.store to + 1) % 65536)
+          has = has_word board lay.places v _ s (alike v _ refl refl refl (λ port. refl) refl refl refl refl) h.has to _ _ ((word_at s.store to + 1) % 65536)
               ready.admitted.0 ready.admitted.1 refl
               (more_low (cell s.store to) (cell s.store (to + 1)) _ _ (h.has.holds.cells to ready.admitted.0) (h.has.started ready.begins).zero)
               (more_high (cell s.store to) (cell s.store (to + 1)) _ _ _ (h.has.holds.cells to ready.admitted.0) (h.has.holds.cells (to + 1)
@@ -357,7 +377,7 @@ module _ (lay : Layout) (m : AvrState) (s : Bytes) where
         },
       ))
 
-  pub decrement : (to : ℕ) → Ready (Word (words.Decrement to)) → StandsAt lay.places m s → Goes (Word (words.Decrement to))
+  pub decrement : (to : ℕ) → Ready (Word (words.Decrement to)) → StandsAt board lay.places m s → Goes (Word (words.Decrement to))
   decrement to ready st = coded (Word (words.Decrement to)) (Loads 16 to) (Loads 17 (to + 1) ∷ Plain (insn.Bset 0) ∷ Plain (insn.Sbc 16 1) ∷ Plain (insn.Sbc
       17 1) ∷ Stores to 16 ∷ Stores (to + 1) 17 ∷ []) ready refl refl refl (
         (lit< tt, ready.admitted.0),
@@ -387,7 +407,8 @@ module _ (lay : Layout) (m : AvrState) (s : Bytes) where
       (λ v h. (
         le_more _,
         record {
-          has = has_word lay.places v _ s (alike v _ refl (λ port. refl) refl refl refl refl) h.has to _ _ ((word_at s.store to + 65535) % 65536)
+          has = has_word board lay.places v _ s (alike v _ refl refl refl (λ port. refl) refl refl refl refl) h.has to _ _
+              ((word_at s.store to + 65535) % 65536)
               ready.admitted.0 ready.admitted.1 refl
               (less_low (cell s.store to) (cell s.store (to + 1)) _ _ (h.has.holds.cells to ready.admitted.0) (h.has.started ready.begins).zero
               (h.has.holds.bytes to))
@@ -397,7 +418,7 @@ module _ (lay : Layout) (m : AvrState) (s : Bytes) where
         },
       ))
 
-  pub add_cells : (to a : ℕ) (b : ℕ) → Ready (Word (words.Add to a (source.Cells b))) → StandsAt lay.places m s → Goes (Word (words.Add to a (source.Cells
+  pub add_cells : (to a : ℕ) (b : ℕ) → Ready (Word (words.Add to a (source.Cells b))) → StandsAt board lay.places m s → Goes (Word (words.Add to a (source.Cells
       b)))
   add_cells to a b ready st = coded (Word (words.Add to a (source.Cells b))) (Loads 16 a) (Loads 17 (a + 1) ∷ Loads 18 b ∷ Loads 19 (b + 1) ∷ Plain (insn.Add
       16 18) ∷ Plain (insn.Adc 17 19) ∷ Stores to 16 ∷ Stores (to + 1) 17 ∷ []) ready refl refl refl (
@@ -419,7 +440,8 @@ module _ (lay : Layout) (m : AvrState) (s : Bytes) where
       (λ v h. (
         le_more _,
         record {
-          has = has_word lay.places v _ s (alike v _ refl (λ port. refl) refl refl refl refl) h.has to _ _ ((word_at s.store a + word_from s.store
+          has = has_word board lay.places v _ s (alike v _ refl refl refl (λ port. refl) refl refl refl refl) h.has to _ _
+              ((word_at s.store a + word_from s.store
               (source.Cells b)) % 65536) ready.admitted.0.0 ready.admitted.0.1 refl
               (added_low (cell s.store a) (cell s.store (a + 1)) (cell s.store b) (cell s.store (b + 1)) _ _ (h.has.holds.cells a ready.admitted.1.0)
               (h.has.holds.cells b ready.admitted.2.0))
@@ -431,7 +453,7 @@ module _ (lay : Layout) (m : AvrState) (s : Bytes) where
         },
       ))
 
-  pub add_number : (to a : ℕ) (b_low b_high : ℕ) → Ready (Word (words.Add to a (source.Number b_low b_high))) → StandsAt lay.places m s → Goes (Word
+  pub add_number : (to a : ℕ) (b_low b_high : ℕ) → Ready (Word (words.Add to a (source.Number b_low b_high))) → StandsAt board lay.places m s → Goes (Word
       (words.Add to a (source.Number b_low b_high)))
   add_number to a b_low b_high ready st = coded (Word (words.Add to a (source.Number b_low b_high))) (Loads 16 a) (Loads 17 (a + 1) ∷ Plain (insn.Ldi 18
       b_low) ∷ Plain (insn.Ldi 19 b_high) ∷ Plain (insn.Add 16 18) ∷ Plain (insn.Adc 17 19) ∷ Stores to 16 ∷ Stores (to + 1) 17 ∷ []) ready refl refl refl (
@@ -450,7 +472,8 @@ module _ (lay : Layout) (m : AvrState) (s : Bytes) where
       (λ v h. (
         le_more _,
         record {
-          has = has_word lay.places v _ s (alike v _ refl (λ port. refl) refl refl refl refl) h.has to _ _ ((word_at s.store a + word_from s.store
+          has = has_word board lay.places v _ s (alike v _ refl refl refl (λ port. refl) refl refl refl refl) h.has to _ _
+              ((word_at s.store a + word_from s.store
               (source.Number b_low b_high)) % 65536) ready.admitted.0.0 ready.admitted.0.1 refl
               (added_low (cell s.store a) (cell s.store (a + 1)) b_low b_high _ _ (h.has.holds.cells a ready.admitted.1.0) refl)
               (added_high (cell s.store a) (cell s.store (a + 1)) b_low b_high _ _ _ _ (h.has.holds.cells a ready.admitted.1.0) (h.has.holds.cells (a + 1)
@@ -459,7 +482,8 @@ module _ (lay : Layout) (m : AvrState) (s : Bytes) where
         },
       ))
 
-  pub subtract_cells_cells : (to : ℕ) (a : ℕ) (b : ℕ) → Ready (Word (words.Subtract to (source.Cells a) (source.Cells b))) → StandsAt lay.places m s → Goes
+  pub subtract_cells_cells : (to : ℕ) (a : ℕ) (b : ℕ) → Ready (Word (words.Subtract to (source.Cells a) (source.Cells b))) → StandsAt board lay.places m s →
+      Goes
       (Word (words.Subtract to (source.Cells a) (source.Cells b)))
   subtract_cells_cells to a b ready st = coded (Word (words.Subtract to (source.Cells a) (source.Cells b))) (Loads 16 a) (Loads 17 (a + 1) ∷ Loads 18 b ∷
       Loads 19 (b + 1) ∷ Plain (insn.Sub 16 18) ∷ Plain (insn.Sbc 17 19) ∷ Stores to 16 ∷ Stores (to + 1) 17 ∷ []) ready refl refl refl (
@@ -481,7 +505,8 @@ module _ (lay : Layout) (m : AvrState) (s : Bytes) where
       (λ v h. (
         le_more _,
         record {
-          has = has_word lay.places v _ s (alike v _ refl (λ port. refl) refl refl refl refl) h.has to _ _ ((word_from s.store (source.Cells a) + (65536 -
+          has = has_word board lay.places v _ s (alike v _ refl refl refl (λ port. refl) refl refl refl refl) h.has to _ _
+              ((word_from s.store (source.Cells a) + (65536 -
               word_from s.store (source.Cells b))) % 65536) ready.admitted.0.0 ready.admitted.0.1 refl
               (taken_low (cell s.store a) (cell s.store (a + 1)) (cell s.store b) (cell s.store (b + 1)) _ _ (h.has.holds.cells a ready.admitted.1.0)
               (h.has.holds.cells b ready.admitted.2.0) (h.has.holds.bytes a) (h.has.holds.bytes b) (h.has.holds.bytes (b + 1)))
@@ -493,7 +518,8 @@ module _ (lay : Layout) (m : AvrState) (s : Bytes) where
         },
       ))
 
-  pub subtract_cells_number : (to : ℕ) (a : ℕ) (b_low b_high : ℕ) → Ready (Word (words.Subtract to (source.Cells a) (source.Number b_low b_high))) → StandsAt
+  pub subtract_cells_number : (to : ℕ) (a : ℕ) (b_low b_high : ℕ) → Ready (Word (words.Subtract to (source.Cells a) (source.Number b_low b_high))) →
+      StandsAt board
       lay.places m s → Goes (Word (words.Subtract to (source.Cells a) (source.Number b_low b_high)))
   subtract_cells_number to a b_low b_high ready st = coded (Word (words.Subtract to (source.Cells a) (source.Number b_low b_high))) (Loads 16 a) (Loads 17 (a
       + 1) ∷ Plain (insn.Ldi 18 b_low) ∷ Plain (insn.Ldi 19 b_high) ∷ Plain (insn.Sub 16 18) ∷ Plain (insn.Sbc 17 19) ∷ Stores to 16 ∷ Stores (to + 1) 17 ∷
@@ -513,7 +539,8 @@ module _ (lay : Layout) (m : AvrState) (s : Bytes) where
       (λ v h. (
         le_more _,
         record {
-          has = has_word lay.places v _ s (alike v _ refl (λ port. refl) refl refl refl refl) h.has to _ _ ((word_from s.store (source.Cells a) + (65536 -
+          has = has_word board lay.places v _ s (alike v _ refl refl refl (λ port. refl) refl refl refl refl) h.has to _ _
+              ((word_from s.store (source.Cells a) + (65536 -
               word_from s.store (source.Number b_low b_high))) % 65536) ready.admitted.0.0 ready.admitted.0.1 refl
               (taken_low (cell s.store a) (cell s.store (a + 1)) b_low b_high _ _ (h.has.holds.cells a ready.admitted.1.0) refl (h.has.holds.bytes a)
               ready.admitted.2.0 ready.admitted.2.1)
@@ -523,7 +550,8 @@ module _ (lay : Layout) (m : AvrState) (s : Bytes) where
         },
       ))
 
-  pub subtract_number_cells : (to : ℕ) (a_low a_high : ℕ) (b : ℕ) → Ready (Word (words.Subtract to (source.Number a_low a_high) (source.Cells b))) → StandsAt
+  pub subtract_number_cells : (to : ℕ) (a_low a_high : ℕ) (b : ℕ) → Ready (Word (words.Subtract to (source.Number a_low a_high) (source.Cells b))) →
+      StandsAt board
       lay.places m s → Goes (Word (words.Subtract to (source.Number a_low a_high) (source.Cells b)))
   subtract_number_cells to a_low a_high b ready st = coded (Word (words.Subtract to (source.Number a_low a_high) (source.Cells b))) (Plain (insn.Ldi 16
       a_low)) (Plain (insn.Ldi 17 a_high) ∷ Loads 18 b ∷ Loads 19 (b + 1) ∷ Plain (insn.Sub 16 18) ∷ Plain (insn.Sbc 17 19) ∷ Stores to 16 ∷ Stores (to + 1)
@@ -543,7 +571,8 @@ module _ (lay : Layout) (m : AvrState) (s : Bytes) where
       (λ v h. (
         le_more _,
         record {
-          has = has_word lay.places v _ s (alike v _ refl (λ port. refl) refl refl refl refl) h.has to _ _ ((word_from s.store (source.Number a_low a_high) +
+          has = has_word board lay.places v _ s (alike v _ refl refl refl (λ port. refl) refl refl refl refl) h.has to _ _
+              ((word_from s.store (source.Number a_low a_high) +
               (65536 - word_from s.store (source.Cells b))) % 65536) ready.admitted.0.0 ready.admitted.0.1 refl
               (taken_low a_low a_high (cell s.store b) (cell s.store (b + 1)) _ _ refl (h.has.holds.cells b ready.admitted.2.0) ready.admitted.1.0
               (h.has.holds.bytes b) (h.has.holds.bytes (b + 1)))
@@ -554,7 +583,7 @@ module _ (lay : Layout) (m : AvrState) (s : Bytes) where
       ))
 
   pub subtract_number_number : (to : ℕ) (a_low a_high : ℕ) (b_low b_high : ℕ) → Ready (Word (words.Subtract to (source.Number a_low a_high) (source.Number
-      b_low b_high))) → StandsAt lay.places m s → Goes (Word (words.Subtract to (source.Number a_low a_high) (source.Number b_low b_high)))
+      b_low b_high))) → StandsAt board lay.places m s → Goes (Word (words.Subtract to (source.Number a_low a_high) (source.Number b_low b_high)))
   subtract_number_number to a_low a_high b_low b_high ready st = coded (Word (words.Subtract to (source.Number a_low a_high) (source.Number b_low b_high)))
       (Plain (insn.Ldi 16 a_low)) (Plain (insn.Ldi 17 a_high) ∷ Plain (insn.Ldi 18 b_low) ∷ Plain (insn.Ldi 19 b_high) ∷ Plain (insn.Sub 16 18) ∷
       Plain (insn.Sbc 17 19) ∷ Stores to 16 ∷ Stores (to + 1) 17 ∷ []) ready refl refl refl (
@@ -577,7 +606,8 @@ module _ (lay : Layout) (m : AvrState) (s : Bytes) where
       (λ v h. (
         le_more _,
         record {
-          has = has_word lay.places v _ s (alike v _ refl (λ port. refl) refl refl refl refl) h.has to _ _ ((word_from s.store (source.Number a_low a_high) +
+          has = has_word board lay.places v _ s (alike v _ refl refl refl (λ port. refl) refl refl refl refl) h.has to _ _
+              ((word_from s.store (source.Number a_low a_high) +
               (65536 - word_from s.store (source.Number b_low b_high))) % 65536) ready.admitted.0.0 ready.admitted.0.1 refl
               (taken_low a_low a_high b_low b_high _ _ refl refl ready.admitted.1.0 ready.admitted.2.0 ready.admitted.2.1)
               (taken_high a_low a_high b_low b_high _ _ _ _ refl refl refl refl ready.admitted.1.0 ready.admitted.1.1 ready.admitted.2.0 ready.admitted.2.1);
@@ -585,16 +615,16 @@ module _ (lay : Layout) (m : AvrState) (s : Bytes) where
         },
       ))
 
-  pub jump : (l : ℕ) → Ready (Jump l) → StandsAt lay.places m s → Goes (Jump l)
+  pub jump : (l : ℕ) → Ready (Jump l) → StandsAt board lay.places m s → Goes (Jump l)
   jump l ready st =
       let named = ready.label l refl in
       coded (Jump l) (Plain (insn.Jmp (slice_index lay.labels l))) [] ready refl refl refl (named.1, tt) st
       (λ v h. (
         lit≤ tt,
-        record { has = has_same lay.places v _ s (alike v _ refl (λ port. refl) refl refl refl refl) h.has None _ refl tt; at = named.0 },
+        record { has = has_same board lay.places v _ s (alike v _ refl refl refl (λ port. refl) refl refl refl refl) h.has None _ refl tt; at = named.0 },
       ))
 
-  pub label : (l : ℕ) → Ready (Label l) → StandsAt lay.places m s → Goes (Label l)
+  pub label : (l : ℕ) → Ready (Label l) → StandsAt board lay.places m s → Goes (Label l)
   label l ready st = inr (
     refl,
     refl,
@@ -604,12 +634,17 @@ module _ (lay : Layout) (m : AvrState) (s : Bytes) where
         sram = st.shows.sram;
         all = st.shows.all;
         scratch = st.shows.scratch;
+        target = st.shows.target;
+        ports = st.shows.ports;
         file = st.shows.file;
+        wires = st.shows.wires;
         ram = st.shows.ram;
         bytes = st.shows.bytes;
         latches = st.shows.latches;
         reading = st.shows.reading;
+        eeprom = st.shows.eeprom;
       };
+      settings = st.settings;
       at = zero_on m.place (slice_index lay.places s.place) (slice_index lay.places (suc s.place)) st.at ready.next;
       started = st.started;
       flag = tt;
@@ -623,7 +658,7 @@ module _ (lay : Layout) (m : AvrState) (s : Bytes) where
   -- the loop's count is in R21
   pub loops_on : (l : ℕ) → Ready (JumpWhere test.LoopsOn l) → slice_index lay.places (act lay.code (JumpWhere test.LoopsOn l) s false no_reading).next.place
       < 8192 →
-      StandsAt lay.places m s → Goes (JumpWhere test.LoopsOn l)
+      StandsAt board lay.places m s → Goes (JumpWhere test.LoopsOn l)
   loops_on l ready low st =
       let named = ready.label l refl in
       coded (JumpWhere test.LoopsOn l) (Plain (insn.Dec 21)) (jump_on 1 false (slice_index lay.labels l)) ready refl refl refl
@@ -638,31 +673,31 @@ module _ (lay : Layout) (m : AvrState) (s : Bytes) where
 
       IsGood : View → ℕ → Type 0
       IsGood v c = slice_index lay.places (next_of c).place < 8192 →
-          AllGood 5 (λ w. ViewStands lay.places w (next_of c)) (paths (Plain (insn.Dec 21) ∷ jump_on 1 false (slice_index lay.labels l)) 0 v)
+          AllGood 5 (λ w. ViewStands board lay.places w (next_of c)) (paths (Plain (insn.Dec 21) ∷ jump_on 1 false (slice_index lay.labels l)) 0 v)
 
       by21 : (slice_index lay.labels l ≡ slice_index lay.places (label_place lay.code l)) × (slice_index lay.labels l < 8192) → (v : View) →
-          ViewStands lay.places v s → slice_index lay.places (suc s.place) ≡ slice_index lay.places s.place + 4 → IsGood v 21
+          ViewStands board lay.places v s → slice_index lay.places (suc s.place) ≡ slice_index lay.places s.place + 4 → IsGood v 21
       by21 named v h next low =
-          good_bump 1 4 (λ w. ViewStands lay.places w (next_of 21)) (paths (jump_on 1 false (slice_index lay.labels l)) 0 (counted v))
-          (jump_good 4 (λ w. ViewStands lay.places w (next_of 21)) (counted v) 1 false (slice_index lay.labels l) (lit≤ tt)
+          good_bump 1 4 (λ w. ViewStands board lay.places w (next_of 21)) (paths (jump_on 1 false (slice_index lay.labels l)) 0 (counted v))
+          (jump_good 4 (λ w. ViewStands board lay.places w (next_of 21)) (counted v) 1 false (slice_index lay.labels l) (lit≤ tt)
           (λ t.
           let gone : slice_index lay.places (After (not (cell (count_of 21) 21 == 0)) l) ≡ slice_index lay.places (suc s.place) =
           ap (λ b. slice_index lay.places (After b l)) (says true t) in
           let at = four_words v.core.place (slice_index lay.places s.place) (slice_index lay.places (suc s.place)) h.at next in (
             subst (λ n. n < 8192) (gone ∙ sym at) low,
             record {
-              has = elsewhere lay.places _ _ _ (taken _ refl (alike v _ refl (λ port. refl) refl refl refl
+              has = elsewhere board lay.places _ _ _ (taken _ refl (alike v _ refl refl refl (λ port. refl) refl refl refl
                   refl));
               at = at ∙ sym gone;
             },
           ))
           (λ t. record {
-            has = elsewhere lay.places _ _ _ (taken _ refl (alike v _ refl (λ port. refl) refl refl refl refl));
+            has = elsewhere board lay.places _ _ _ (taken _ refl (alike v _ refl refl refl (λ port. refl) refl refl refl refl));
             at = named.0 ∙ sym (ap (λ b. slice_index lay.places (After b l)) (says false t));
           }))
         where
           same_count : (v.cells 21 + 255) % 256 ≡ (cell s.store 21 + 255) % 256
-          same_count = ap (λ n. (n + 255) % 256) (h.has.holds.cells 21 (inl (lit< tt, refl)))
+          same_count = ap (λ n. (n + 255) % 256) (h.has.holds.cells 21 (inl (lit< tt, refl, refl)))
 
           says : (b : Bool) → flag (counted v).core 1 ≡ b → not (cell (count_of 21) 21 == 0) ≡ not b
           says b t =
@@ -673,22 +708,22 @@ module _ (lay : Layout) (m : AvrState) (s : Bytes) where
           small = omega arith
 
           taken : (w : View) → w.cells ≡ changed v.cells 21 ((v.cells 21 + 255) % 256) → Alike v w →
-              Has lay.places w (record s { place = suc s.place; store = record (with_cell s.store 21 ((cell s.store 21 + 255) % 256)) { flag = None } })
-          taken w same k = has_cell lay.places v w s k h.has 21 _ _ (inl (lit< tt, refl)) same same_count small
+              Has board lay.places w (record s { place = suc s.place; store = record (with_cell s.store 21 ((cell s.store 21 + 255) % 256)) { flag = None } })
+          taken w same k = has_cell board lay.places v w s k h.has 21 _ _ (inl (lit< tt, refl, refl)) same same_count small
 
   pub flag_jump : (k : FlagKind) (is : Bool) (l : ℕ) → Ready (JumpWhere (test.Flag k is) l) →
-      slice_index lay.places (act lay.code (JumpWhere (test.Flag k is) l) s false no_reading).next.place < 8192 → StandsAt lay.places m s →
+      slice_index lay.places (act lay.code (JumpWhere (test.Flag k is) l) s false no_reading).next.place < 8192 → StandsAt board lay.places m s →
       Goes (JumpWhere (test.Flag k is) l)
   flag_jump k is l ready low st = by is ready low
     where
       fork : (is : Bool) → (slice_index lay.labels l ≡ slice_index lay.places (label_place lay.code l)) × (slice_index lay.labels l < 8192) →
           IsOfKind s.store.flag k → slice_index lay.places (suc s.place) ≡ slice_index lay.places s.place + 3 →
-          slice_index lay.places (After (same (value_of s.store.flag) is) l) < 8192 → (v : View) → ViewStands lay.places v s →
-          AllGood 4 (λ w. ViewStands lay.places w (goes_to s s.store (After (same (value_of s.store.flag) is) l)))
+          slice_index lay.places (After (same (value_of s.store.flag) is) l) < 8192 → (v : View) → ViewStands board lay.places v s →
+          AllGood 4 (λ w. ViewStands board lay.places w (goes_to s s.store (After (same (value_of s.store.flag) is) l)))
           (paths (jump_on (status_bit k) is (slice_index lay.labels l)) 0 v)
       fork is named fits next low v h =
           let value = flag_value v.core k s.store.flag fits h.has.flag in
-          jump_good 4 (λ w. ViewStands lay.places w (goes_to s s.store (After (same (value_of s.store.flag) is) l))) v (status_bit k) is
+          jump_good 4 (λ w. ViewStands board lay.places w (goes_to s s.store (After (same (value_of s.store.flag) is) l))) v (status_bit k) is
           (slice_index lay.labels l) (lit≤ tt)
           (λ t.
           let gone : slice_index lay.places (After (same (value_of s.store.flag) is) l) ≡ slice_index lay.places (suc s.place) =
@@ -696,14 +731,16 @@ module _ (lay : Layout) (m : AvrState) (s : Bytes) where
           let at = three_words v.core.place (slice_index lay.places s.place) (slice_index lay.places (suc s.place)) h.at next in (
             subst (λ n. n < 8192) (gone ∙ sym at) low,
             record {
-              has = has_same lay.places v _ s (alike v _ refl (λ port. refl) refl refl refl refl) h.has s.store.flag (After (same (value_of s.store.flag) is)
+              has = has_same board lay.places v _ s (alike v _ refl refl refl (λ port. refl) refl refl refl refl) h.has s.store.flag
+                  (After (same (value_of s.store.flag) is)
                   l) refl
                   (flag_kept v.core (v.core.place + 1 + 2) 2 s.store.flag h.has.flag);
               at = at ∙ sym gone;
             },
           ))
           (λ t. record {
-            has = has_same lay.places v _ s (alike v _ refl (λ port. refl) refl refl refl refl) h.has s.store.flag (After (same (value_of s.store.flag) is)
+            has = has_same board lay.places v _ s (alike v _ refl refl refl (λ port. refl) refl refl refl refl) h.has s.store.flag
+                (After (same (value_of s.store.flag) is)
                 l) refl
                 (flag_kept (at_place v.core (v.core.place + 1) 1) (slice_index lay.labels l) 3 s.store.flag (flag_kept v.core (v.core.place + 1) 1
                 s.store.flag h.has.flag));
@@ -721,7 +758,7 @@ module _ (lay : Layout) (m : AvrState) (s : Bytes) where
           coded (JumpWhere (test.Flag k false) l) (Plain (insn.Brbs (status_bit k) 2)) (Plain (insn.Jmp (slice_index lay.labels l)) ∷ []) ready refl refl refl
           ((status_low k, lit< tt), (named.1, tt)) st (fork false named ready.fits.1 ready.next low)
 
-  pub less_cells : (a : ℕ) (b : ℕ) → Ready (Compare (compares.Less a (source.Cells b))) → StandsAt lay.places m s → Goes (Compare (compares.Less a
+  pub less_cells : (a : ℕ) (b : ℕ) → Ready (Compare (compares.Less a (source.Cells b))) → StandsAt board lay.places m s → Goes (Compare (compares.Less a
       (source.Cells b)))
   less_cells a b ready st = coded (Compare (compares.Less a (source.Cells b))) (Loads 16 a) (Loads 17 (a + 1) ∷ Loads 18 b ∷ Loads 19 (b + 1) ∷
       Plain (insn.Cp 16 18) ∷ Plain (insn.Cpc 17 19) ∷ []) ready refl refl refl (
@@ -743,7 +780,7 @@ module _ (lay : Layout) (m : AvrState) (s : Bytes) where
       (λ v h. (
         le_more _,
         record {
-          has = has_same lay.places v _ s (alike v _ refl (λ port. refl) refl refl refl refl) h.has
+          has = has_same board lay.places v _ s (alike v _ refl refl refl (λ port. refl) refl refl refl refl) h.has
               (Some (record { kind = kind.Less; value = nat_lt (lifted (word_at s.store a)) (lifted (word_from s.store (source.Cells b))) })) (suc s.place)
               refl
               (less_flag (cell s.store a) (cell s.store (a + 1)) (cell s.store b) (cell s.store (b + 1)) _ _ _ _ (h.has.holds.cells a ready.admitted.0.0)
@@ -753,7 +790,7 @@ module _ (lay : Layout) (m : AvrState) (s : Bytes) where
         },
       ))
 
-  pub less_number : (a : ℕ) (b_low b_high : ℕ) → Ready (Compare (compares.Less a (source.Number b_low b_high))) → StandsAt lay.places m s → Goes (Compare
+  pub less_number : (a : ℕ) (b_low b_high : ℕ) → Ready (Compare (compares.Less a (source.Number b_low b_high))) → StandsAt board lay.places m s → Goes (Compare
       (compares.Less a (source.Number b_low b_high)))
   less_number a b_low b_high ready st = coded (Compare (compares.Less a (source.Number b_low b_high))) (Loads 16 a) (Loads 17 (a + 1) ∷ Plain (insn.Ldi 18
       b_low) ∷ Plain (insn.Ldi 19 b_high) ∷ Plain (insn.Cp 16 18) ∷ Plain (insn.Cpc 17 19) ∷ []) ready refl refl refl (
@@ -772,7 +809,7 @@ module _ (lay : Layout) (m : AvrState) (s : Bytes) where
       (λ v h. (
         le_more _,
         record {
-          has = has_same lay.places v _ s (alike v _ refl (λ port. refl) refl refl refl refl) h.has
+          has = has_same board lay.places v _ s (alike v _ refl refl refl (λ port. refl) refl refl refl refl) h.has
               (Some (record { kind = kind.Less; value = nat_lt (lifted (word_at s.store a)) (lifted (word_from s.store (source.Number b_low b_high))) }))
               (suc s.place) refl
               (less_flag (cell s.store a) (cell s.store (a + 1)) b_low b_high _ _ _ _ (h.has.holds.cells a ready.admitted.0.0) (h.has.holds.cells (a + 1)
@@ -781,7 +818,7 @@ module _ (lay : Layout) (m : AvrState) (s : Bytes) where
         },
       ))
 
-  pub equal_cells : (a : ℕ) (b : ℕ) → Ready (Compare (compares.Equal a (source.Cells b))) → StandsAt lay.places m s → Goes (Compare (compares.Equal a
+  pub equal_cells : (a : ℕ) (b : ℕ) → Ready (Compare (compares.Equal a (source.Cells b))) → StandsAt board lay.places m s → Goes (Compare (compares.Equal a
       (source.Cells b)))
   equal_cells a b ready st = coded (Compare (compares.Equal a (source.Cells b))) (Loads 16 a) (Loads 17 (a + 1) ∷ Loads 18 b ∷ Loads 19 (b + 1) ∷
       Plain (insn.Cp 16 18) ∷ Plain (insn.Cpc 17 19) ∷ []) ready refl refl refl (
@@ -803,7 +840,7 @@ module _ (lay : Layout) (m : AvrState) (s : Bytes) where
       (λ v h. (
         le_more _,
         record {
-          has = has_same lay.places v _ s (alike v _ refl (λ port. refl) refl refl refl refl) h.has
+          has = has_same board lay.places v _ s (alike v _ refl refl refl (λ port. refl) refl refl refl refl) h.has
               (Some (record { kind = kind.Equal; value = word_at s.store a == word_from s.store (source.Cells b) })) (suc s.place) refl
               (equal_flag (cell s.store a) (cell s.store (a + 1)) (cell s.store b) (cell s.store (b + 1)) _ _ _ _ (h.has.holds.cells a ready.admitted.0.0)
               (h.has.holds.cells (a + 1) ready.admitted.0.1) (h.has.holds.cells b ready.admitted.1.0) (h.has.holds.cells (b + 1) ready.admitted.1.1)
@@ -812,7 +849,8 @@ module _ (lay : Layout) (m : AvrState) (s : Bytes) where
         },
       ))
 
-  pub equal_number : (a : ℕ) (b_low b_high : ℕ) → Ready (Compare (compares.Equal a (source.Number b_low b_high))) → StandsAt lay.places m s → Goes (Compare
+  pub equal_number : (a : ℕ) (b_low b_high : ℕ) → Ready (Compare (compares.Equal a (source.Number b_low b_high))) → StandsAt board lay.places m s →
+      Goes (Compare
       (compares.Equal a (source.Number b_low b_high)))
   equal_number a b_low b_high ready st = coded (Compare (compares.Equal a (source.Number b_low b_high))) (Loads 16 a) (Loads 17 (a + 1) ∷ Plain (insn.Ldi 18
       b_low) ∷ Plain (insn.Ldi 19 b_high) ∷ Plain (insn.Cp 16 18) ∷ Plain (insn.Cpc 17 19) ∷ []) ready refl refl refl (
@@ -831,7 +869,7 @@ module _ (lay : Layout) (m : AvrState) (s : Bytes) where
       (λ v h. (
         le_more _,
         record {
-          has = has_same lay.places v _ s (alike v _ refl (λ port. refl) refl refl refl refl) h.has
+          has = has_same board lay.places v _ s (alike v _ refl refl refl (λ port. refl) refl refl refl refl) h.has
               (Some (record { kind = kind.Equal; value = word_at s.store a == word_from s.store (source.Number b_low b_high) })) (suc s.place) refl
               (equal_flag (cell s.store a) (cell s.store (a + 1)) b_low b_high _ _ _ _ (h.has.holds.cells a ready.admitted.0.0) (h.has.holds.cells (a + 1)
               ready.admitted.0.1) refl refl (h.has.holds.bytes a) (h.has.holds.bytes (a + 1)) ready.admitted.1.0 ready.admitted.1.1);
@@ -839,14 +877,14 @@ module _ (lay : Layout) (m : AvrState) (s : Bytes) where
         },
       ))
 
-  pub below : (a n : ℕ) → Ready (Compare (compares.Below a n)) → StandsAt lay.places m s → Goes (Compare (compares.Below a n))
+  pub below : (a n : ℕ) → Ready (Compare (compares.Below a n)) → StandsAt board lay.places m s → Goes (Compare (compares.Below a n))
   below a n ready st = coded (Compare (compares.Below a n)) (Loads 16 a) (Loads 17 (a + 1) ∷ Plain (insn.Cpi 16 n) ∷ Plain (insn.Cpc 17 1) ∷ []) ready refl
       refl refl
       ((lit< tt, ready.admitted.0.0), ((lit< tt, ready.admitted.0.1), ((lit≤ tt, lit< tt, ready.admitted.1), ((lit< tt, lit< tt), tt)))) st
       (λ v h. (
         le_more _,
         record {
-          has = has_same lay.places v _ s (alike v _ refl (λ port. refl) refl refl refl refl) h.has
+          has = has_same board lay.places v _ s (alike v _ refl refl refl (λ port. refl) refl refl refl refl) h.has
               (Some (record { kind = kind.Below; value = nat_lt (word_at s.store a) n })) (suc s.place) refl
               (ap₂ (λ x y. nat_lt y (v.work 1 + as_bit (nat_lt x (n + 0)))) (h.has.holds.cells a ready.admitted.0.0) (h.has.holds.cells (a + 1)
               ready.admitted.0.1)
@@ -855,13 +893,13 @@ module _ (lay : Layout) (m : AvrState) (s : Bytes) where
         },
       ))
 
-  pub exclusive_or : (to a b : ℕ) → Ready (Byte (bytes.Xor to a b)) → StandsAt lay.places m s → Goes (Byte (bytes.Xor to a b))
+  pub exclusive_or : (to a b : ℕ) → Ready (Byte (bytes.Xor to a b)) → StandsAt board lay.places m s → Goes (Byte (bytes.Xor to a b))
   exclusive_or to a b ready st = coded (Byte (bytes.Xor to a b)) (Loads 16 a) (Loads 17 b ∷ Plain (insn.Eor 16 17) ∷ Stores to 16 ∷ []) ready refl refl refl
       ((lit< tt, ready.admitted.1), ((lit< tt, ready.admitted.2), ((lit< tt, lit< tt), ((lit< tt, ready.admitted.0), tt)))) st
       (λ v h. (
         le_more _,
         record {
-          has = has_cell lay.places v _ s (alike v _ refl (λ port. refl) refl refl refl refl) h.has to (bit_xor (v.cells a) (v.cells b))
+          has = has_cell board lay.places v _ s (alike v _ refl refl refl (λ port. refl) refl refl refl refl) h.has to (bit_xor (v.cells a) (v.cells b))
               (bit_xor (cell s.store a) (cell s.store b)) ready.admitted.0 refl
               (ap₂ bit_xor (h.has.holds.cells a ready.admitted.1) (h.has.holds.cells b ready.admitted.2))
               (xor_of_8 (cell s.store a) (cell s.store b) (h.has.holds.bytes a) (h.has.holds.bytes b));

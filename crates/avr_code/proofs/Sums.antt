@@ -9,7 +9,7 @@ carry_by : (n : ℕ) (b : Bool) → nat_lt 255 n ≡ b → n < 512 → as_bit b 
 carry_by n true e small = let low = ltb-true 255 n e in omega (arith, low, small)
 carry_by n false e small = let high = ltb-false 255 n e in omega (arith, high)
 
-carry_is : (n : ℕ) → n < 512 → as_bit (nat_lt 255 n) ≡ n / 256
+pub carry_is : (n : ℕ) → n < 512 → as_bit (nat_lt 255 n) ≡ n / 256
 carry_is n small = carry_by n (nat_lt 255 n) refl small
 
 borrow_by : (x y : ℕ) (b : Bool) → nat_lt x y ≡ b → x < 256 → y ≤ 256 → as_bit b ≡ (255 + y - x) / 256

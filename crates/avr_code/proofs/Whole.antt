@@ -1,6 +1,6 @@
 -- The law of the primitives that are admitted.
-use Rattle.std.proofs.Common.{◌≡◌, ◌≢◌, ℕ, ◌+◌, ◌<◌, ◌≤◌, ◌⊎◌, inl, inr, true, false, List, [], ◌∷◌, length, refl, sym, ap, ◌∙◌, subst, arith, lit<, lit≤, length-append}
-use Rattle.std.specs.Prelude.{slice_index}
+use Rattle.std.proofs.Common.{◌≡◌, ◌≢◌, ℕ, suc, Bool, ◌+◌, ◌<◌, ◌≤◌, ◌⊎◌, inl, inr, true, false, List, [], ◌∷◌, length, refl, sym, ap, ◌∙◌, subst, arith, lit<, lit≤, length-append}
+use Rattle.std.specs.Prelude.{◌==◌, if◌then◌else◌, slice_index}
 use Rattle.chip_tables.specs.Outside.{no_reading}
 use Rattle.runs.specs.declared.ask.Ask.TheVariants as ask
 use Rattle.runs.specs.Chip.{steps_over}
@@ -8,6 +8,9 @@ use Rattle.runs.specs.Run.{ask_of}
 use Rattle.byte_code.specs.declared.prim.BytePrim.{BytePrim}
 use Rattle.byte_code.specs.declared.prim.BytePrim.TheVariants.{Start, CyclePoll, AdcPoll, Label, Jump, Call, Return, JumpWhere, Bit, Byte, Word, Compare, Device, Eeprom, Table}
 use Rattle.byte_code.specs.declared.prim.Test.TheVariants as test
+use Rattle.byte_code.specs.declared.prim.BitOp.{BitOp}
+use Rattle.byte_code.specs.declared.prim.BitOp.TheVariants as ops
+use Rattle.byte_code.specs.declared.prim.BitDest.TheVariants as dest
 use Rattle.byte_code.specs.declared.prim.ByteOp.TheVariants as bytes
 use Rattle.byte_code.specs.declared.prim.WordOp.{WordOp}
 use Rattle.byte_code.specs.declared.prim.WordOp.TheVariants as words
@@ -22,12 +25,14 @@ use Rattle.avr_mach.specs.Words.{size_of}
 use Rattle.avr_devices.specs.Part.{mega16}
 use Rattle.chip_tables.specs.declared.outside.PinReading.{PinReading}
 use Rattle.target_core.specs.Law.{MachineLaw, IsReady, Layout, LeadsFrom, here, has_words}
-use Rattle.avr_code.specs.Code.{Piece, insn_of, words_by, words_of, size_in, code_of, word_count, cycle_count}
-use Rattle.avr_code.specs.Stands.{StandsAt}
-use Rattle.avr_code.specs.Target.{Admits, AdmitsWord, leave_count, avr_target}
+use Rattle.avr_code.specs.Code.{Piece, insn_of, words_by, words_of, size_in, is_wire, by_cell, bit_code, code_of, word_count, cycle_count}
+use Rattle.avr_code.specs.Stands.{Board, StandsAt}
+use Rattle.avr_code.specs.Target.{Admits, AdmitsBit, AdmitsWord, leave_count, avr_target}
+use Rattle.avr_code.proofs.Bits as bits
 use Rattle.avr_code.proofs.Control as control
 use Rattle.avr_code.proofs.Polling as polling
 use Rattle.avr_code.proofs.Primitives as law
+use Rattle.avr_code.proofs.Products as products
 use Rattle.avr_code.proofs.Walk.{sizes}
 
 word_length : (i : AvrInsn) → (size_of i ≡ 1) ⊎ (size_of i ≡ 2) → length (words_by (size_of i) i) ≡ size_of i
@@ -42,29 +47,29 @@ code_length (p ∷ ps) =
     ∙ ap (λ n. size_of (insn_of p) + n) (code_length ps)
 
 -- no primitive's words depend on the places of the labels
-same_size : (p : BytePrim) (labels : List ℕ) → Admits p → size_in (code_of p labels) ≡ word_count p
-same_size (Label l) labels h = refl
-same_size (Jump l) labels h = refl
-same_size (JumpWhere test.LoopsOn l) labels h = refl
-same_size (JumpWhere (test.Flag k true) l) labels h = refl
-same_size (JumpWhere (test.Flag k false) l) labels h = refl
-same_size (JumpWhere (test.Bit from is) l) labels h = absurd h
-same_size (JumpWhere test.NoByte l) labels h = absurd h
-same_size (JumpWhere test.Sends l) labels h = absurd h
-same_size (JumpWhere test.Writes l) labels h = absurd h
-same_size (JumpWhere test.NoneWaits l) labels h = absurd h
-same_size (Byte op) labels h = refl
-same_size (Word op) labels h = refl
-same_size (Call l) labels h = refl
-same_size Return labels h = refl
-same_size (CyclePoll l) labels h = refl
-same_size (Compare op) labels h = refl
-same_size (Start n) labels h = absurd h
-same_size (AdcPoll l) labels h = absurd h
-same_size (Bit op) labels h = absurd h
-same_size (Device op) labels h = absurd h
-same_size (Eeprom op) labels h = absurd h
-same_size (Table values l) labels h = absurd h
+same_size : (board : Board) (p : BytePrim) (labels : List ℕ) → Admits board p → size_in (code_of p labels) ≡ word_count p
+same_size board (Label l) labels h = refl
+same_size board (Jump l) labels h = refl
+same_size board (JumpWhere test.LoopsOn l) labels h = refl
+same_size board (JumpWhere (test.Flag k true) l) labels h = refl
+same_size board (JumpWhere (test.Flag k false) l) labels h = refl
+same_size board (JumpWhere (test.Bit from is) l) labels h = refl
+same_size board (JumpWhere test.NoByte l) labels h = absurd h
+same_size board (JumpWhere test.Sends l) labels h = absurd h
+same_size board (JumpWhere test.Writes l) labels h = absurd h
+same_size board (JumpWhere test.NoneWaits l) labels h = absurd h
+same_size board (Byte op) labels h = refl
+same_size board (Word op) labels h = refl
+same_size board (Call l) labels h = refl
+same_size board Return labels h = refl
+same_size board (CyclePoll l) labels h = refl
+same_size board (Compare op) labels h = refl
+same_size board (Start n) labels h = absurd h
+same_size board (AdcPoll l) labels h = absurd h
+same_size board (Bit op) labels h = refl
+same_size board (Device op) labels h = absurd h
+same_size board (Eeprom op) labels h = absurd h
+same_size board (Table values l) labels h = absurd h
 
 abbrev IsFull : List Piece → Type 0
 IsFull [] = ⊥
@@ -86,37 +91,62 @@ word_words (words.Decrement to) h = some_words (code_of (Word (words.Decrement t
 word_words (words.Add to a b) h = some_words (code_of (Word (words.Add to a b)) []) tt
 word_words (words.Subtract to (source.Cells a) b) h = some_words (code_of (Word (words.Subtract to (source.Cells a) b)) []) tt
 word_words (words.Subtract to (source.Number low high) b) h = some_words (code_of (Word (words.Subtract to (source.Number low high) b)) []) tt
-word_words (words.NegateIf to sign) h = absurd h
-word_words words.MultiplyStep h = absurd h
-word_words words.DivideStep h = absurd h
+word_words (words.NegateIf to sign) h = some_words (code_of (Word (words.NegateIf to sign)) []) tt
+word_words words.MultiplyStep h = lit< tt
+word_words words.DivideStep h = lit< tt
 
-worded : (p : BytePrim) → Admits p → has_words p ≡ true → 0 < word_count p
-worded (Label l) h e = absurd (cc e)
-worded (Jump l) h e = lit< tt
-worded (JumpWhere test.LoopsOn l) h e = lit< tt
-worded (JumpWhere (test.Flag k true) l) h e = lit< tt
-worded (JumpWhere (test.Flag k false) l) h e = lit< tt
-worded (JumpWhere (test.Bit from is) l) h e = absurd h
-worded (JumpWhere test.NoByte l) h e = absurd h
-worded (JumpWhere test.Sends l) h e = absurd h
-worded (JumpWhere test.Writes l) h e = absurd h
-worded (JumpWhere test.NoneWaits l) h e = absurd h
-worded (Byte (bytes.Put to x)) h e = some_words (code_of (Byte (bytes.Put to x)) []) tt
-worded (Byte (bytes.Copy to from)) h e = some_words (code_of (Byte (bytes.Copy to from)) []) tt
-worded (Byte (bytes.Xor to a b)) h e = some_words (code_of (Byte (bytes.Xor to a b)) []) tt
-worded (Word op) h e = word_words op h
-worded (Call l) h e = lit< tt
-worded Return h e = lit< tt
-worded (CyclePoll l) h e = lit< tt
-worded (Compare (compares.Less a b)) h e = some_words (code_of (Compare (compares.Less a b)) []) tt
-worded (Compare (compares.Equal a b)) h e = some_words (code_of (Compare (compares.Equal a b)) []) tt
-worded (Compare (compares.Below a n)) h e = some_words (code_of (Compare (compares.Below a n)) []) tt
-worded (Start n) h e = absurd h
-worded (AdcPoll l) h e = absurd h
-worded (Bit op) h e = absurd h
-worded (Device op) h e = absurd h
-worded (Eeprom op) h e = absurd h
-worded (Table values l) h e = absurd h
+by_full : (a : ℕ) (power wire byte : List Piece) → IsFull power → IsFull wire → IsFull byte → IsFull (by_cell a power wire byte)
+by_full a power wire byte p w b = by (a == 20) (is_wire a)
+  where
+    by : (i j : Bool) → IsFull (if i then power else if j then wire else byte)
+    by true j = p
+    by false true = w
+    by false false = b
+
+wire_full : (a : ℕ) (power wire byte : List Piece) → IsFull power → IsFull wire → is_wire a ≡ true → IsFull (by_cell a power wire byte)
+wire_full a power wire byte p w e = subst (λ j. IsFull (if a == 20 then power else if j then wire else byte)) (sym e) (by (a == 20))
+  where
+    by : (i : Bool) → IsFull (if i then power else wire)
+    by true = p
+    by false = w
+
+bit_full : (board : Board) (op : BitOp) → AdmitsBit board op → IsFull (bit_code op)
+bit_full board (ops.Put (dest.Cell a b) x) h = by_full a _ _ _ tt tt tt
+bit_full board (ops.Put (dest.Latch port b) x) h = tt
+bit_full board (ops.Copy (dest.Cell a b) from inverted) h = by_full a _ _ _ tt tt tt
+bit_full board (ops.Copy (dest.Latch port b) from inverted) h = tt
+bit_full board (ops.PutIf from is (dest.Cell a b) x) h = by_full a _ _ _ tt tt tt
+bit_full board (ops.PutIf from is (dest.Latch port b) x) h = tt
+bit_full board (ops.PutOnFlag k is (dest.Cell a b) x) h = wire_full a _ _ _ tt tt h.0
+bit_full board (ops.PutOnFlag k is (dest.Latch port b) x) h = absurd h
+
+worded : (board : Board) (p : BytePrim) → Admits board p → has_words p ≡ true → 0 < word_count p
+worded board (Label l) h e = absurd (cc e)
+worded board (Jump l) h e = lit< tt
+worded board (JumpWhere test.LoopsOn l) h e = lit< tt
+worded board (JumpWhere (test.Flag k true) l) h e = lit< tt
+worded board (JumpWhere (test.Flag k false) l) h e = lit< tt
+worded board (JumpWhere (test.Bit from is) l) h e = some_words (code_of (JumpWhere (test.Bit from is) l) []) tt
+worded board (JumpWhere test.NoByte l) h e = absurd h
+worded board (JumpWhere test.Sends l) h e = absurd h
+worded board (JumpWhere test.Writes l) h e = absurd h
+worded board (JumpWhere test.NoneWaits l) h e = absurd h
+worded board (Byte (bytes.Put to x)) h e = some_words (code_of (Byte (bytes.Put to x)) []) tt
+worded board (Byte (bytes.Copy to from)) h e = some_words (code_of (Byte (bytes.Copy to from)) []) tt
+worded board (Byte (bytes.Xor to a b)) h e = some_words (code_of (Byte (bytes.Xor to a b)) []) tt
+worded board (Word op) h e = word_words op h
+worded board (Call l) h e = lit< tt
+worded board Return h e = lit< tt
+worded board (CyclePoll l) h e = lit< tt
+worded board (Compare (compares.Less a b)) h e = some_words (code_of (Compare (compares.Less a b)) []) tt
+worded board (Compare (compares.Equal a b)) h e = some_words (code_of (Compare (compares.Equal a b)) []) tt
+worded board (Compare (compares.Below a n)) h e = some_words (code_of (Compare (compares.Below a n)) []) tt
+worded board (Start n) h e = absurd h
+worded board (AdcPoll l) h e = absurd h
+worded board (Bit op) h e = some_words (bit_code op) (bit_full board op h)
+worded board (Device op) h e = absurd h
+worded board (Eeprom op) h e = absurd h
+worded board (Table values l) h e = absurd h
 
 inside : (p : BytePrim) → asked_by p ≢ ask.Nothing → 0 + leave_count p ≤ cycle_count p
 inside (CyclePoll l) ne = lit≤ tt
@@ -136,101 +166,102 @@ inside (Eeprom op) ne = absurd (ne refl)
 inside (Table values l) ne = absurd (ne refl)
 
 -- of those that are admitted, the cycle poll alone asks
-poll_of : (p : BytePrim) → Admits p → asked_by p ≢ ask.Nothing → (l : ℕ) × (CyclePoll l ≡ p)
-poll_of (CyclePoll l) h ne = (l, refl)
-poll_of (AdcPoll l) h ne = absurd h
-poll_of (Start n) h ne = absurd (ne refl)
-poll_of (Label l) h ne = absurd (ne refl)
-poll_of (Jump l) h ne = absurd (ne refl)
-poll_of (Call l) h ne = absurd (ne refl)
-poll_of Return h ne = absurd (ne refl)
-poll_of (JumpWhere by l) h ne = absurd (ne refl)
-poll_of (Bit op) h ne = absurd (ne refl)
-poll_of (Byte op) h ne = absurd (ne refl)
-poll_of (Word op) h ne = absurd (ne refl)
-poll_of (Compare op) h ne = absurd (ne refl)
-poll_of (Device op) h ne = absurd (ne refl)
-poll_of (Eeprom op) h ne = absurd (ne refl)
-poll_of (Table values l) h ne = absurd (ne refl)
+poll_of : (board : Board) (p : BytePrim) → Admits board p → asked_by p ≢ ask.Nothing → (l : ℕ) × (CyclePoll l ≡ p)
+poll_of board (CyclePoll l) h ne = (l, refl)
+poll_of board (AdcPoll l) h ne = absurd h
+poll_of board (Start n) h ne = absurd (ne refl)
+poll_of board (Label l) h ne = absurd (ne refl)
+poll_of board (Jump l) h ne = absurd (ne refl)
+poll_of board (Call l) h ne = absurd (ne refl)
+poll_of board Return h ne = absurd (ne refl)
+poll_of board (JumpWhere by l) h ne = absurd (ne refl)
+poll_of board (Bit op) h ne = absurd (ne refl)
+poll_of board (Byte op) h ne = absurd (ne refl)
+poll_of board (Word op) h ne = absurd (ne refl)
+poll_of board (Compare op) h ne = absurd (ne refl)
+poll_of board (Device op) h ne = absurd (ne refl)
+poll_of board (Eeprom op) h ne = absurd (ne refl)
+poll_of board (Table values l) h ne = absurd (ne refl)
 
-module _ (lay : Layout) (m : AvrState) (s : Bytes) (st : StandsAt lay.places m s) where
+module _ (board : Board) (lay : Layout) (m : AvrState) (s : Bytes) (st : StandsAt board lay.places m s) where
   abbrev Ready : BytePrim → Type 0
-  Ready p = IsReady avr_target lay s p
+  Ready p = IsReady (avr_target board) lay s p
 
-  word_goes : (op : WordOp) → Ready (Word op) → law.Goes lay m s (Word op)
-  word_goes (words.Move to (source.Cells a)) ready = law.move_cells lay m s to a ready st
-  word_goes (words.Move to (source.Number low high)) ready = law.move_number lay m s to low high ready st
-  word_goes (words.Increment to) ready = law.increment lay m s to ready st
-  word_goes (words.Decrement to) ready = law.decrement lay m s to ready st
-  word_goes (words.Add to a (source.Cells b)) ready = law.add_cells lay m s to a b ready st
-  word_goes (words.Add to a (source.Number low high)) ready = law.add_number lay m s to a low high ready st
-  word_goes (words.Subtract to (source.Cells a) (source.Cells b)) ready = law.subtract_cells_cells lay m s to a b ready st
-  word_goes (words.Subtract to (source.Cells a) (source.Number low high)) ready = law.subtract_cells_number lay m s to a low high ready st
-  word_goes (words.Subtract to (source.Number low high) (source.Cells b)) ready = law.subtract_number_cells lay m s to low high b ready st
-  word_goes (words.Subtract to (source.Number low high) (source.Number low2 high2)) ready =
-      law.subtract_number_number lay m s to low high low2 high2 ready st
-  word_goes (words.NegateIf to sign) ready = absurd ready.admitted
-  word_goes words.MultiplyStep ready = absurd ready.admitted
-  word_goes words.DivideStep ready = absurd ready.admitted
+  word_goes : (op : WordOp) → Ready (Word op) → slice_index lay.places (suc s.place) < 8192 → law.Goes board lay m s (Word op)
+  word_goes (words.Move to (source.Cells a)) ready low = law.move_cells board lay m s to a ready st
+  word_goes (words.Move to (source.Number low high)) ready below = law.move_number board lay m s to low high ready st
+  word_goes (words.Increment to) ready low = law.increment board lay m s to ready st
+  word_goes (words.Decrement to) ready low = law.decrement board lay m s to ready st
+  word_goes (words.Add to a (source.Cells b)) ready low = law.add_cells board lay m s to a b ready st
+  word_goes (words.Add to a (source.Number low high)) ready below = law.add_number board lay m s to a low high ready st
+  word_goes (words.Subtract to (source.Cells a) (source.Cells b)) ready low = law.subtract_cells_cells board lay m s to a b ready st
+  word_goes (words.Subtract to (source.Cells a) (source.Number low high)) ready below = law.subtract_cells_number board lay m s to a low high ready st
+  word_goes (words.Subtract to (source.Number low high) (source.Cells b)) ready below = law.subtract_number_cells board lay m s to low high b ready st
+  word_goes (words.Subtract to (source.Number low high) (source.Number low2 high2)) ready below =
+      law.subtract_number_number board lay m s to low high low2 high2 ready st
+  word_goes (words.NegateIf to sign) ready low = products.negate_if board lay m s to sign ready st
+  word_goes words.MultiplyStep ready low = products.multiply_step board lay m s ready st
+  word_goes words.DivideStep ready low = products.divide_step board lay m s ready low st
 
-  plainly : (p : BytePrim) → Ready p → asked_by p ≡ ask.Nothing → slice_index lay.places (act lay.code p s false no_reading).next.place < 8192 → law.Goes lay
+  plainly : (p : BytePrim) → Ready p → asked_by p ≡ ask.Nothing → slice_index lay.places (act lay.code p s false no_reading).next.place < 8192 →
+      law.Goes board lay
       m s p
-  plainly (Label l) ready q low = law.label lay m s l ready st
-  plainly (Jump l) ready q low = law.jump lay m s l ready st
-  plainly (JumpWhere test.LoopsOn l) ready q low = law.loops_on lay m s l ready low st
-  plainly (JumpWhere (test.Flag k is) l) ready q low = law.flag_jump lay m s k is l ready low st
-  plainly (JumpWhere (test.Bit from is) l) ready q low = absurd ready.admitted
+  plainly (Label l) ready q low = law.label board lay m s l ready st
+  plainly (Jump l) ready q low = law.jump board lay m s l ready st
+  plainly (JumpWhere test.LoopsOn l) ready q low = law.loops_on board lay m s l ready low st
+  plainly (JumpWhere (test.Flag k is) l) ready q low = law.flag_jump board lay m s k is l ready low st
+  plainly (JumpWhere (test.Bit from is) l) ready q low = bits.jump_bit board lay m s from is l ready st
   plainly (JumpWhere test.NoByte l) ready q low = absurd ready.admitted
   plainly (JumpWhere test.Sends l) ready q low = absurd ready.admitted
   plainly (JumpWhere test.Writes l) ready q low = absurd ready.admitted
   plainly (JumpWhere test.NoneWaits l) ready q low = absurd ready.admitted
-  plainly (Byte (bytes.Put to x)) ready q low = law.put_byte lay m s to x ready st
-  plainly (Byte (bytes.Copy to from)) ready q low = law.copy_byte lay m s to from ready st
-  plainly (Byte (bytes.Xor to a b)) ready q low = law.exclusive_or lay m s to a b ready st
-  plainly (Word op) ready q low = word_goes op ready
-  plainly (Call l) ready q low = control.call lay m s l ready st
-  plainly Return ready q low = control.return lay m s ready st
+  plainly (Byte (bytes.Put to x)) ready q low = law.put_byte board lay m s to x ready st
+  plainly (Byte (bytes.Copy to from)) ready q low = law.copy_byte board lay m s to from ready st
+  plainly (Byte (bytes.Xor to a b)) ready q low = law.exclusive_or board lay m s to a b ready st
+  plainly (Word op) ready q low = word_goes op ready low
+  plainly (Call l) ready q low = control.call board lay m s l ready st
+  plainly Return ready q low = control.return board lay m s ready st
   plainly (CyclePoll l) ready q low = absurd (cc q)
-  plainly (Compare (compares.Less a (source.Cells b))) ready q low = law.less_cells lay m s a b ready st
-  plainly (Compare (compares.Less a (source.Number low high))) ready q inside = law.less_number lay m s a low high ready st
-  plainly (Compare (compares.Equal a (source.Cells b))) ready q low = law.equal_cells lay m s a b ready st
-  plainly (Compare (compares.Equal a (source.Number low high))) ready q inside = law.equal_number lay m s a low high ready st
-  plainly (Compare (compares.Below a n)) ready q low = law.below lay m s a n ready st
+  plainly (Compare (compares.Less a (source.Cells b))) ready q low = law.less_cells board lay m s a b ready st
+  plainly (Compare (compares.Less a (source.Number low high))) ready q inside = law.less_number board lay m s a low high ready st
+  plainly (Compare (compares.Equal a (source.Cells b))) ready q low = law.equal_cells board lay m s a b ready st
+  plainly (Compare (compares.Equal a (source.Number low high))) ready q inside = law.equal_number board lay m s a low high ready st
+  plainly (Compare (compares.Below a n)) ready q low = law.below board lay m s a n ready st
   plainly (Start n) ready q low = absurd ready.admitted
   plainly (AdcPoll l) ready q low = absurd ready.admitted
-  plainly (Bit op) ready q low = absurd ready.admitted
+  plainly (Bit op) ready q low = bits.bit_goes board lay m s st low op ready
   plainly (Device op) ready q low = absurd ready.admitted
   plainly (Eeprom op) ready q low = absurd ready.admitted
   plainly (Table values l) ready q low = absurd ready.admitted
 
   asks : (p : BytePrim) → Ready p → asked_by p ≢ ask.Nothing → ask_of (steps_over (avr_step mega16) lay.flash) m ≡ asked_by p
   asks p ready ne =
-      let q = poll_of p ready.admitted ne in
-      subst (λ p. Ready p → ask_of (steps_over (avr_step mega16) lay.flash) m ≡ asked_by p) q.1 (λ ready. polling.asks lay m s q.0 ready st) ready
+      let q = poll_of board p ready.admitted ne in
+      subst (λ p. Ready p → ask_of (steps_over (avr_step mega16) lay.flash) m ≡ asked_by p) q.1 (λ ready. polling.asks board lay m s q.0 ready st) ready
 
   waits : (p : BytePrim) → Ready p → asked_by p ≢ ask.Nothing →
-      LeadsFrom (steps_over (avr_step mega16) lay.flash) (λ m'. StandsAt lay.places m' s) (steps_over (avr_step mega16) lay.flash m false no_reading) 4 []
+      LeadsFrom (steps_over (avr_step mega16) lay.flash) (λ m'. StandsAt board lay.places m' s) (steps_over (avr_step mega16) lay.flash m false no_reading) 4 []
   waits p ready ne =
-      let q = poll_of p ready.admitted ne in
-      polling.waits lay m s q.0 (subst Ready (sym q.1) ready) st
+      let q = poll_of board p ready.admitted ne in
+      polling.waits board lay m s q.0 (subst Ready (sym q.1) ready) st
 
   leaves : (p : BytePrim) (r : PinReading) → Ready p → asked_by p ≢ ask.Nothing →
-      LeadsFrom (steps_over (avr_step mega16) lay.flash) (λ m'. StandsAt lay.places m' (act lay.code p s true r).next)
+      LeadsFrom (steps_over (avr_step mega16) lay.flash) (λ m'. StandsAt board lay.places m' (act lay.code p s true r).next)
       (steps_over (avr_step mega16) lay.flash m true r) (leave_count p) []
   leaves p r ready ne =
-      let q = poll_of p ready.admitted ne in
-      subst (λ p. Ready p → LeadsFrom (steps_over (avr_step mega16) lay.flash) (λ m'. StandsAt lay.places m' (act lay.code p s true r).next)
-      (steps_over (avr_step mega16) lay.flash m true r) (leave_count p) []) q.1 (λ ready. polling.leaves lay m s q.0 ready st r) ready
+      let q = poll_of board p ready.admitted ne in
+      subst (λ p. Ready p → LeadsFrom (steps_over (avr_step mega16) lay.flash) (λ m'. StandsAt board lay.places m' (act lay.code p s true r).next)
+      (steps_over (avr_step mega16) lay.flash m true r) (leave_count p) []) q.1 (λ ready. polling.leaves board lay m s q.0 ready st r) ready
 
-pub avr_law : MachineLaw avr_target
-avr_law = record {
-  plain = λ lay m s p ready q low st. plainly lay m s st p ready q low;
+pub avr_law : (board : Board) → MachineLaw (avr_target board)
+avr_law board = record {
+  plain = λ lay m s p ready q low st. plainly board lay m s st p ready q low;
   enters = λ lay m s p ready ne st. here st;
-  asks = λ lay m s p ready ne st. asks lay m s st p ready ne;
-  waits = λ lay m s p ready ne st. waits lay m s st p ready ne;
-  leaves = λ lay m s p r legal ready ne low st. leaves lay m s st p r ready ne;
-  sized = λ p place labels h. code_length (code_of p labels) ∙ same_size p labels h;
-  worded = worded;
+  asks = λ lay m s p ready ne st. asks board lay m s st p ready ne;
+  waits = λ lay m s p ready ne st. waits board lay m s st p ready ne;
+  leaves = λ lay m s p r legal ready ne low st. leaves board lay m s st p r ready ne;
+  sized = λ p place labels h. code_length (code_of p labels) ∙ same_size board p labels h;
+  worded = worded board;
   within = inside;
-  shown = λ places p m s st. st.shows;
+  shown = λ places p m s st. record { shows = st.shows; started = st.started };
 }

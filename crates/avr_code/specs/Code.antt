@@ -2,11 +2,18 @@
 --
 -- R1 holds 0; R16 to R19 hold nothing between two primitives. A word is computed in R16 and R17, its low byte first, with the other operand in R18 and
 -- R19. The cells below 20h are registers, and the others are in the SRAM.
-use Rattle.std.specs.Prelude.{ℕ, ◌+◌, ◌==◌, nat_lt, Bool, true, false, if◌then◌else◌, List, [], ◌∷◌, ◌++◌, slice_index}
+use Rattle.std.specs.Prelude.{ℕ, ◌+◌, ◌-◌, ◌^◌, ◌==◌, ◌&&◌, ◌||◌, not, nat_le, nat_lt, Bool, true, false, if◌then◌else◌, List, [], ◌∷◌, ◌++◌, slice_index}
+use Rattle.chip_tables.specs.Bits.{as_bit}
 use Rattle.byte_code.specs.declared.prim.BytePrim.{BytePrim}
 use Rattle.byte_code.specs.declared.prim.BytePrim.TheVariants.{Start, CyclePoll, AdcPoll, Label, Jump, Call, Return, JumpWhere, Bit, Byte, Word, Compare, Device, Eeprom, Table}
 use Rattle.byte_code.specs.declared.prim.Test.{Test}
 use Rattle.byte_code.specs.declared.prim.Test.TheVariants as test
+use Rattle.byte_code.specs.declared.prim.BitOp.{BitOp}
+use Rattle.byte_code.specs.declared.prim.BitOp.TheVariants as bits
+use Rattle.byte_code.specs.declared.prim.BitSource.{BitSource}
+use Rattle.byte_code.specs.declared.prim.BitSource.TheVariants as bit
+use Rattle.byte_code.specs.declared.prim.BitDest.{BitDest}
+use Rattle.byte_code.specs.declared.prim.BitDest.TheVariants as dest
 use Rattle.byte_code.specs.declared.prim.ByteOp.{ByteOp}
 use Rattle.byte_code.specs.declared.prim.ByteOp.TheVariants as bytes
 use Rattle.byte_code.specs.declared.prim.WordOp.{WordOp}
@@ -17,27 +24,109 @@ use Rattle.byte_code.specs.declared.prim.CompareOp.{CompareOp}
 use Rattle.byte_code.specs.declared.prim.CompareOp.TheVariants as compares
 use Rattle.byte_code.specs.declared.prim.FlagKind.{FlagKind}
 use Rattle.byte_code.specs.declared.prim.FlagKind.TheVariants as kind
+use Rattle.byte_code.specs.Store.{in_byte}
 use Rattle.chip_tables.specs.declared.mega16.TheConstants.{IO_FIRST}
+use Rattle.avr_devices.specs.IoSpace.{latch_address, level_address}
 use Rattle.avr_mach.specs.declared.insn.AvrInsn.{AvrInsn}
 use Rattle.avr_mach.specs.declared.insn.AvrInsn.TheVariants as insn
 use Rattle.avr_mach.specs.Words.{first_word, second_word, size_of}
 
--- An instruction; or one by which a register takes a cell, or a cell a register.
+-- An instruction; or one by which a register takes a cell, or a cell a register; by which R18 takes the byte of a bit; by which a cell that is a register
+-- takes another register; by which a bit of a latch becomes so.
 pub data Piece : Type 0 where
   Plain : (i : AvrInsn) → Piece
   Loads : (r a : ℕ) → Piece
   Stores : (a r : ℕ) → Piece
+  Fetches : (from : BitSource) → Piece
+  Gives : (a r : ℕ) → Piece
+  Latches : (port b : ℕ) (x : Bool) → Piece
 
 abbrev pub insn_of : Piece → AvrInsn
 insn_of (Plain i) = i
 insn_of (Loads r a) = if nat_lt a IO_FIRST then insn.Mov r a else insn.Lds r a
 insn_of (Stores a r) = if nat_lt a IO_FIRST then insn.Mov a r else insn.Sts a r
+insn_of (Fetches (bit.Cell a b)) = if nat_lt a IO_FIRST then insn.Mov 18 a else insn.Lds 18 a
+insn_of (Fetches (bit.Level port b)) = insn.In 18 (level_address port)
+insn_of (Fetches (bit.Latch port b)) = insn.In 18 (latch_address port)
+insn_of (Gives a r) = insn.Mov a r
+insn_of (Latches port b true) = insn.Sbi (latch_address port) b
+insn_of (Latches port b false) = insn.Cbi (latch_address port) b
 
 -- the bit of the status register that holds a comparison: S, Z and C
 abbrev pub status_bit : FlagKind → ℕ
 status_bit kind.Less = 4
 status_bit kind.Equal = 1
 status_bit kind.Below = 0
+
+-- A wire is bit 0 of R20, or of R2 to R9; the other bits of these registers are any.
+abbrev pub is_wire : ℕ → Bool
+is_wire r = r == 20 || (nat_le 2 r && nat_le r 9)
+
+-- the number of the bit in its byte
+abbrev pub bit_no : BitSource → ℕ
+bit_no (bit.Cell a b) = in_byte b
+bit_no (bit.Level port b) = in_byte b
+bit_no (bit.Latch port b) = in_byte b
+
+-- passes over the next instruction unless the bit that was fetched is so
+abbrev pub unless : BitSource → Bool → Piece
+unless from true = Plain (insn.Sbrc 18 (bit_no from))
+unless from false = Plain (insn.Sbrs 18 (bit_no from))
+
+-- sets or clears in R16 the bit by the mask in R17
+abbrev pub mask_of : Bool → ℕ → ℕ
+mask_of true b = 2 ^ b
+mask_of false b = 255 - 2 ^ b
+
+abbrev pub masked : Bool → Piece
+masked true = Plain (insn.Or 16 17)
+masked false = Plain (insn.And 16 17)
+
+-- by what a cell is: the wire of R20, another wire, or a byte
+abbrev pub by_cell : {X : Type 0} → ℕ → X → X → X → X
+by_cell a power wire byte = if a == 20 then power else if is_wire a then wire else byte
+
+abbrev pub put_code : BitDest → Bool → List Piece
+put_code (dest.Cell a b) x =
+    by_cell a (Plain (insn.Ldi 20 (as_bit x)) ∷ []) (Plain (insn.Ldi 16 (as_bit x)) ∷ Gives a 16 ∷ [])
+    (Loads 16 a ∷ Plain (insn.Ldi 17 (mask_of x (in_byte b))) ∷ masked x ∷ Stores a 16 ∷ [])
+put_code (dest.Latch port b) x = Latches port (in_byte b) x ∷ []
+
+abbrev pub put_if_code : BitSource → Bool → BitDest → Bool → List Piece
+put_if_code from is (dest.Cell a b) x =
+    by_cell a (Fetches from ∷ unless from is ∷ Plain (insn.Ldi 20 (as_bit x)) ∷ [])
+    (Fetches from ∷ Plain (insn.Ldi 16 (as_bit x)) ∷ unless from is ∷ Gives a 16 ∷ [])
+    (Fetches from ∷ Loads 16 a ∷ Plain (insn.Ldi 17 (mask_of x (in_byte b))) ∷ unless from is ∷ masked x ∷ Stores a 16 ∷ [])
+put_if_code from is (dest.Latch port b) x = Fetches from ∷ unless from is ∷ Latches port (in_byte b) x ∷ []
+
+-- a bit of a byte or of a latch is set by one test and cleared by another, so that it takes no other value on the way
+abbrev pub copy_code : BitDest → BitSource → Bool → List Piece
+copy_code (dest.Cell a b) from inverted =
+    by_cell a
+    (Fetches from ∷ Plain (insn.Ldi 20 (as_bit inverted)) ∷ Plain (insn.Sbrc 18 (bit_no from)) ∷ Plain (insn.Ldi 20 (as_bit (not inverted))) ∷ [])
+    (Fetches from ∷ Plain (insn.Ldi 16 (as_bit inverted)) ∷ Plain (insn.Sbrc 18 (bit_no from)) ∷ Plain (insn.Ldi 16 (as_bit (not inverted))) ∷ Gives a 16 ∷
+    [])
+    (Fetches from ∷ Loads 16 a ∷ Plain (insn.Ldi 17 (2 ^ in_byte b)) ∷ Plain (insn.Ldi 19 (255 - 2 ^ in_byte b)) ∷ unless from (not inverted) ∷
+    Plain (insn.Or 16 17) ∷ unless from inverted ∷ Plain (insn.And 16 19) ∷ Stores a 16 ∷ [])
+copy_code (dest.Latch port b) from inverted =
+    Fetches from ∷ unless from (not inverted) ∷ Latches port (in_byte b) true ∷ unless from inverted ∷ Latches port (in_byte b) false ∷ []
+
+-- passes over one word unless the flag is so
+abbrev pub unless_flag : FlagKind → Bool → Piece
+unless_flag k true = Plain (insn.Brbc (status_bit k) 1)
+unless_flag k false = Plain (insn.Brbs (status_bit k) 1)
+
+-- the flag stays, so that only wires can be written
+abbrev pub put_on_flag_code : FlagKind → Bool → BitDest → Bool → List Piece
+put_on_flag_code k is (dest.Cell a b) x =
+    by_cell a (unless_flag k is ∷ Plain (insn.Ldi 20 (as_bit x)) ∷ []) (Plain (insn.Ldi 16 (as_bit x)) ∷ unless_flag k is ∷ Gives a 16 ∷ []) []
+put_on_flag_code k is (dest.Latch port b) x = []
+
+abbrev pub bit_code : BitOp → List Piece
+bit_code (bits.Put to x) = put_code to x
+bit_code (bits.Copy to from inverted) = copy_code to from inverted
+bit_code (bits.PutIf from is to x) = put_if_code from is to x
+bit_code (bits.PutOnFlag k is to x) = put_on_flag_code k is to x
 
 -- goes on at the place where a bit of the status register is so, and else past the jump
 abbrev pub jump_on : ℕ → Bool → ℕ → List Piece
@@ -47,7 +136,7 @@ jump_on s false place = Plain (insn.Brbs s 2) ∷ Plain (insn.Jmp place) ∷ []
 abbrev pub test_code : Test → ℕ → List Piece
 test_code test.LoopsOn place = Plain (insn.Dec 21) ∷ jump_on 1 false place
 test_code (test.Flag k is) place = jump_on (status_bit k) is place
-test_code (test.Bit from is) place = []
+test_code (test.Bit from is) place = Fetches from ∷ unless from is ∷ Plain (insn.Jmp place) ∷ []
 test_code test.NoByte place = []
 test_code test.Sends place = []
 test_code test.Writes place = []
@@ -77,6 +166,12 @@ divide_code =
     Plain (insn.Add 24 24) ∷ Plain (insn.Adc 25 25) ∷ Plain (insn.Adc 30 30) ∷ Plain (insn.Adc 31 31) ∷ Plain (insn.Cp 30 22) ∷ Plain (insn.Cpc 31 23)
     ∷ Plain (insn.Brbs 0 3) ∷ Plain (insn.Sub 30 22) ∷ Plain (insn.Sbc 31 23) ∷ Plain (insn.Inc 24) ∷ []
 
+-- the word's complement and 1 more, where the sign's bit 7 is 1
+abbrev pub negate_code : ℕ → ℕ → List Piece
+negate_code to sign =
+    Loads 18 sign ∷ Loads 16 to ∷ Loads 17 (to + 1) ∷ Plain (insn.Sbrs 18 7) ∷ Plain (insn.Rjmp 4) ∷ Plain (insn.Com 16) ∷ Plain (insn.Com 17)
+    ∷ Plain (insn.Adc 16 1) ∷ Plain (insn.Adc 17 1) ∷ word_stored to
+
 abbrev pub word_code : WordOp → List Piece
 word_code (words.Move to from) = word_loaded 16 from ++ word_stored to
 word_code (words.Increment to) =
@@ -87,7 +182,7 @@ word_code (words.Add to a b) =
     word_loaded 16 (source.Cells a) ++ (word_loaded 18 b ++ (Plain (insn.Add 16 18) ∷ Plain (insn.Adc 17 19) ∷ word_stored to))
 word_code (words.Subtract to a b) =
     word_loaded 16 a ++ (word_loaded 18 b ++ (Plain (insn.Sub 16 18) ∷ Plain (insn.Sbc 17 19) ∷ word_stored to))
-word_code (words.NegateIf to sign) = []
+word_code (words.NegateIf to sign) = negate_code to sign
 word_code words.MultiplyStep = multiply_code
 word_code words.DivideStep = divide_code
 
@@ -116,7 +211,7 @@ code_of (Word op) labels = word_code op
 code_of (Compare op) labels = compare_code op
 code_of (Start n) labels = []
 code_of (AdcPoll l) labels = []
-code_of (Bit op) labels = []
+code_of (Bit op) labels = bit_code op
 code_of (Device op) labels = []
 code_of (Eeprom op) labels = []
 code_of (Table values l) labels = []
@@ -137,7 +232,18 @@ size_in (p ∷ ps) = size_of (insn_of p) + size_in ps
 abbrev pub word_count : BytePrim → ℕ
 word_count p = size_in (code_of p [])
 
--- An instruction takes as many cycles as it has words, but JMP, CALL and RET take more.
+-- a latch is written in two cycles by one word
+abbrev pub latch_cycles : BitDest → ℕ
+latch_cycles (dest.Cell a b) = 0
+latch_cycles (dest.Latch port b) = 1
+
+abbrev pub bit_cycles : BitOp → ℕ
+bit_cycles (bits.Put to x) = latch_cycles to
+bit_cycles (bits.Copy to from inverted) = latch_cycles to
+bit_cycles (bits.PutIf from is to x) = latch_cycles to
+bit_cycles (bits.PutOnFlag k is to x) = latch_cycles to
+
+-- An instruction takes as many cycles as it has words, but JMP, CALL and RET, branches and the writes of latches take more.
 abbrev pub more_cycles : BytePrim → ℕ
 more_cycles (Jump l) = 1
 more_cycles (Call l) = 2
@@ -150,7 +256,7 @@ more_cycles (Word op) = 0
 more_cycles (Compare op) = 0
 more_cycles (Start n) = 0
 more_cycles (AdcPoll l) = 0
-more_cycles (Bit op) = 0
+more_cycles (Bit op) = bit_cycles op
 more_cycles (Device op) = 0
 more_cycles (Eeprom op) = 0
 more_cycles (Table values l) = 0

@@ -1,10 +1,17 @@
 -- The ATmega16 as a target of the assembler, for the primitives that are admitted.
-use Rattle.std.specs.Prelude.{ℕ, ◌+◌, ◌<◌}
+use Rattle.std.specs.Prelude.{◌≡◌, ◌⊎◌, ℕ, ◌+◌, ◌<◌, true, false}
+use Rattle.chip_tables.specs.Bits.{bit_of}
 use Rattle.chip_tables.specs.declared.mega16.TheConstants.{FLASH_WORDS}
 use Rattle.byte_code.specs.declared.prim.BytePrim.{BytePrim}
 use Rattle.byte_code.specs.declared.prim.BytePrim.TheVariants.{Start, CyclePoll, AdcPoll, Label, Jump, Call, Return, JumpWhere, Bit, Byte, Word, Compare, Device, Eeprom, Table}
 use Rattle.byte_code.specs.declared.prim.Test.{Test}
 use Rattle.byte_code.specs.declared.prim.Test.TheVariants as test
+use Rattle.byte_code.specs.declared.prim.BitOp.{BitOp}
+use Rattle.byte_code.specs.declared.prim.BitOp.TheVariants as bits
+use Rattle.byte_code.specs.declared.prim.BitSource.{BitSource}
+use Rattle.byte_code.specs.declared.prim.BitSource.TheVariants as bit
+use Rattle.byte_code.specs.declared.prim.BitDest.{BitDest}
+use Rattle.byte_code.specs.declared.prim.BitDest.TheVariants as dest
 use Rattle.byte_code.specs.declared.prim.ByteOp.{ByteOp}
 use Rattle.byte_code.specs.declared.prim.ByteOp.TheVariants as bytes
 use Rattle.byte_code.specs.declared.prim.WordOp.{WordOp}
@@ -13,13 +20,14 @@ use Rattle.byte_code.specs.declared.prim.WordSource.{WordSource}
 use Rattle.byte_code.specs.declared.prim.WordSource.TheVariants as source
 use Rattle.byte_code.specs.declared.prim.CompareOp.{CompareOp}
 use Rattle.byte_code.specs.declared.prim.CompareOp.TheVariants as compares
+use Rattle.byte_code.specs.Store.{in_byte}
 use Rattle.runs.specs.Chip.{steps_over}
 use Rattle.avr_devices.specs.Part.{mega16}
 use Rattle.avr_mach.specs.declared.state.AvrState.{AvrState}
 use Rattle.avr_mach.specs.Step.{avr_step}
 use Rattle.target_core.specs.Law.{Target}
-use Rattle.avr_code.specs.Code.{code_of, words_of, word_count, cycle_count}
-use Rattle.avr_code.specs.Stands.{IsCell, Shows, StandsAt}
+use Rattle.avr_code.specs.Code.{is_wire, code_of, words_of, word_count, cycle_count}
+use Rattle.avr_code.specs.Stands.{IsCell, Board, direction, ShowsAt, StandsAt}
 
 -- both of its cells are there
 abbrev pub IsWord : ℕ → Type 0
@@ -29,14 +37,40 @@ abbrev pub ReadsWord : WordSource → Type 0
 ReadsWord (source.Cells a) = IsWord a
 ReadsWord (source.Number low high) = (low < 256) × (high < 256)
 
-abbrev pub AdmitsTest : Test → Type 0
-AdmitsTest test.LoopsOn = Unit {0}
-AdmitsTest (test.Flag k is) = Unit {0}
-AdmitsTest (test.Bit from is) = ⊥
-AdmitsTest test.NoByte = ⊥
-AdmitsTest test.Sends = ⊥
-AdmitsTest test.Writes = ⊥
-AdmitsTest test.NoneWaits = ⊥
+-- a wire, by its one bit
+abbrev pub IsWireBit : ℕ → ℕ → Type 0
+IsWireBit a b = (is_wire a ≡ true) × (in_byte b ≡ 0)
+
+-- levels are read at inputs
+abbrev pub ReadsBit : Board → BitSource → Type 0
+ReadsBit board (bit.Cell a b) = IsCell a ⊎ IsWireBit a b
+ReadsBit board (bit.Level port b) =
+    (port < 4) × (bit_of (direction board.outputs port) (in_byte b) ≡ false)
+ReadsBit board (bit.Latch port b) = port < 4
+
+abbrev pub WritesBit : BitDest → Type 0
+WritesBit (dest.Cell a b) = IsCell a ⊎ IsWireBit a b
+WritesBit (dest.Latch port b) = port < 4
+
+-- where the flag has to stay, a wire is written
+abbrev pub WritesWire : BitDest → Type 0
+WritesWire (dest.Cell a b) = IsWireBit a b
+WritesWire (dest.Latch port b) = ⊥
+
+abbrev pub AdmitsBit : Board → BitOp → Type 0
+AdmitsBit board (bits.Put to x) = WritesBit to
+AdmitsBit board (bits.Copy to from inverted) = WritesBit to × ReadsBit board from
+AdmitsBit board (bits.PutIf from is to x) = ReadsBit board from × WritesBit to
+AdmitsBit board (bits.PutOnFlag k is to x) = WritesWire to
+
+abbrev pub AdmitsTest : Board → Test → Type 0
+AdmitsTest board test.LoopsOn = Unit {0}
+AdmitsTest board (test.Flag k is) = Unit {0}
+AdmitsTest board (test.Bit from is) = ReadsBit board from
+AdmitsTest board test.NoByte = ⊥
+AdmitsTest board test.Sends = ⊥
+AdmitsTest board test.Writes = ⊥
+AdmitsTest board test.NoneWaits = ⊥
 
 abbrev pub AdmitsByte : ByteOp → Type 0
 AdmitsByte (bytes.Put to x) = IsCell to × (x < 256)
@@ -49,33 +83,32 @@ AdmitsWord (words.Increment to) = IsWord to
 AdmitsWord (words.Decrement to) = IsWord to
 AdmitsWord (words.Add to a b) = IsWord to × IsWord a × ReadsWord b
 AdmitsWord (words.Subtract to a b) = IsWord to × ReadsWord a × ReadsWord b
-AdmitsWord (words.NegateIf to sign) = ⊥
-AdmitsWord words.MultiplyStep = ⊥
-AdmitsWord words.DivideStep = ⊥
+AdmitsWord (words.NegateIf to sign) = IsWord to × IsCell sign
+AdmitsWord words.MultiplyStep = Unit {0}
+AdmitsWord words.DivideStep = Unit {0}
 
 abbrev pub AdmitsCompare : CompareOp → Type 0
 AdmitsCompare (compares.Less a b) = IsWord a × ReadsWord b
 AdmitsCompare (compares.Equal a b) = IsWord a × ReadsWord b
 AdmitsCompare (compares.Below a n) = IsWord a × (n < 256)
 
--- The cycle poll, calls, jumps but those by a bit or a device, bytes, words and comparisons. Not yet: the start, bits, negations, the steps of products
--- and quotients, devices and tables.
-abbrev pub Admits : BytePrim → Type 0
-Admits (Label l) = Unit {0}
-Admits (Jump l) = Unit {0}
-Admits (JumpWhere by l) = AdmitsTest by
-Admits (Byte op) = AdmitsByte op
-Admits (Word op) = AdmitsWord op
-Admits (Call l) = Unit {0}
-Admits Return = Unit {0}
-Admits (CyclePoll l) = Unit {0}
-Admits (Compare op) = AdmitsCompare op
-Admits (Start n) = ⊥
-Admits (AdcPoll l) = ⊥
-Admits (Bit op) = ⊥
-Admits (Device op) = ⊥
-Admits (Eeprom op) = ⊥
-Admits (Table values l) = ⊥
+-- The cycle poll, calls, jumps but those by a bit or a device, bytes, words and comparisons. Not yet: the start, bits, devices and tables.
+abbrev pub Admits : Board → BytePrim → Type 0
+Admits board (Label l) = Unit {0}
+Admits board (Jump l) = Unit {0}
+Admits board (JumpWhere by l) = AdmitsTest board by
+Admits board (Byte op) = AdmitsByte op
+Admits board (Word op) = AdmitsWord op
+Admits board (Call l) = Unit {0}
+Admits board Return = Unit {0}
+Admits board (CyclePoll l) = Unit {0}
+Admits board (Compare op) = AdmitsCompare op
+Admits board (Start n) = ⊥
+Admits board (AdcPoll l) = ⊥
+Admits board (Bit op) = AdmitsBit board op
+Admits board (Device op) = ⊥
+Admits board (Eeprom op) = ⊥
+Admits board (Table values l) = ⊥
 
 -- the cycles of a poll from the step that is answered that it is ready
 abbrev pub leave_count : BytePrim → ℕ
@@ -95,13 +128,13 @@ leave_count (Device op) = 0
 leave_count (Eeprom op) = 0
 leave_count (Table values l) = 0
 
-abbrev pub avr_target : Target AvrState
-avr_target = record {
+abbrev pub avr_target : Board → Target AvrState
+avr_target board = record {
   step = λ flash. steps_over (avr_step mega16) flash;
-  stands = λ places m s. StandsAt places m s;
-  awaits = λ places p m s. StandsAt places m s;
-  shows = λ m s. Shows m s.store;
-  admits = Admits;
+  stands = λ places m s. StandsAt board places m s;
+  awaits = λ places p m s. StandsAt board places m s;
+  shows = λ m s. ShowsAt board m s;
+  admits = Admits board;
   size = FLASH_WORDS;
   words_in = word_count;
   cycles_in = cycle_count;
