@@ -261,7 +261,12 @@ module _ (o : Layout) (c : IsChip o.plan.target) (room : ram_need o.plan.sizes �
   }
 
   first_stands : Stands o started_store (first_store o started_store (slice_index d.eeprom))
-  first_stands = record { bits = λ k h. refl; outputs = λ k h. refl; numbers = λ v h. subst (IsWordOf (pos 0)) (sym (zeroed.words v h)) zero_word }
+  first_stands = record {
+    bits = λ k h. refl;
+    outputs = λ k h. refl;
+    numbers = λ v h. subst (IsWordOf (pos 0)) (sym (zeroed.words v h)) zero_word;
+    eeprom = ap slice_index wiped.eeprom;
+  }
 
   first_bits : (k : ℕ) → k < o.plan.sizes.kept_bits → bit_of (cell started_store (bit_cell o k).address) (bit_cell o k).bit ≡ false
   first_bits k h = ap (λ n. bit_of n (bit_cell o k).bit) (zeroed.bits k h) ∙ no_bit (bit_cell o k).bit

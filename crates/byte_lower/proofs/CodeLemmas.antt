@@ -84,7 +84,7 @@ list_turns o (Inc v) l top = (refl, tt)
 list_turns o (Dec v) l top = (refl, tt)
 list_turns o op l top = tt
 
-every_joined : (P : Paced → Type 0) (x : Option Guard) (one : Guard → List Paced) (list : List Paced) → ((g : Guard) → Every P (one g)) → Every P list →
+pub every_joined : (P : Paced → Type 0) (x : Option Guard) (one : Guard → List Paced) (list : List Paced) → ((g : Guard) → Every P (one g)) → Every P list →
     Every P (joined x one list)
 every_joined P (Some g) one list h f = h g
 every_joined P None one list h f = f

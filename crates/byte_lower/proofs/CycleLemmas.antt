@@ -19,7 +19,8 @@ use Rattle.byte_code.specs.Machine.{label_place, next_with, polled}
 use Rattle.byte_code.specs.Table.{effect, plain}
 use Rattle.byte_code.specs.Table as table
 use Rattle.byte_code.proofs.Times.{times}
-use Rattle.byte_code.proofs.Ways.{Way, there, acts, way_on, Segment, Polls, keeps_counts, at_each}
+use Rattle.byte_code.proofs.Ways.{Way, there, acts, way_on, Segment, Polls, keeps_counts, at_each, sent_so_far}
+use Rattle.byte_lower.proofs.DeviceLemmas.{nothing_sent}
 use Rattle.byte_lower.proofs.BootLemmas.{started_store, seen_levels, booted_start}
 use Rattle.byte_lower.proofs.CodeLemmas.{Every, every_on, TurnsOnce, BootsOnce, IsNoPoll, lists_turn, starts_boot, starts_wait, starts_names, in_front, from_place, times_on}
 use Rattle.byte_lower.proofs.PlaceLemmas.{places_apart}
@@ -30,6 +31,10 @@ use Rattle.byte_lower.specs.Code.{booted, polling, start_values, code_of, CanPla
 use Rattle.byte_lower.specs.Lists.{paced, lists_of}
 use Rattle.byte_lower.specs.Stands.{Stands, seen}
 use Rattle.byte_lower.specs.declared.layout.Layout.{Layout}
+
+none_sent : (xs ys : List ℕ) → xs ++ ys ≡ [] → xs ≡ []
+none_sent [] ys e = refl
+none_sent (x ∷ xs) ys e = absurd (cc)
 
 -- the store behind one cycle more
 behind_on : (ops : List IntOp) (t : int.Store) (rs : List Reading) (k : ℕ) (r : Reading) → slice_get rs k ≡ Some r → store_behind ops t rs (suc k) ≡
@@ -170,7 +175,7 @@ module _ (o : Layout) (p : IntProgram) (can : CanPlace o p) (c : IsChip o.plan.t
             at_place = record {
               closed = h.closed;
               good = record {
-                stands = record { bits = h.stands.bits; outputs = h.stands.outputs; numbers = h.stands.numbers };
+                stands = record { bits = h.stands.bits; outputs = h.stands.outputs; numbers = h.stands.numbers; eeprom = h.stands.eeprom };
                 levels = seen_levels o r.levels;
                 cells = h.cells;
                 latches = h.latches;
@@ -237,7 +242,7 @@ module _ (o : Layout) (p : IntProgram) (can : CanPlace o p) (c : IsChip o.plan.t
         subst (λ x. Segment code readings AtCycle silent (suc k) (polled s (effect x.prim s.store) true r).next) (is_poll s.place q h.is_at at)
         (turn_at k s r h read)
 
-    module _ (s : Bytes) (r : Reading) (fresh : s.place ≡ 0) (reach : Reaches code (AtCycle 0) (suc loop) s) where
+    module _ (s : Bytes) (r : Reading) (fresh : s.place ≡ 0) (first : t.devices.sent ≡ []) (reach : Reaches code (AtCycle 0) (suc loop) s) where
       few_boots : (i boot : ℕ) (b : Bool) → nat_le i (suc loop) ≡ b → (i ≤ suc loop → boot ≡ 1) → times i (s.place ∷ reach.begun) ≤ boot
       few_boots i boot true f once_only = omega (arith, once s.place (suc loop) i reach.begun reach.rises, once_only (grind (arith, nat_tests, f)))
       few_boots i boot false f once_only = omega (arith, none_behind s.place (suc loop) i reach.begun reach.rises (grind (arith, nat_tests, f)))
@@ -249,6 +254,8 @@ module _ (o : Layout) (p : IntProgram) (can : CanPlace o p) (c : IsChip o.plan.t
       runs answers = record {
         counts = keeps_counts code readings AtCycle silent polls_at turn s answers boot polls_turn;
         polls = λ j b q e h poll. let x = at_each code readings AtCycle silent polls_at turn s answers boot j b q e h poll in (x.0.stands, x.1);
+        silent = λ j b e. let x = sent_so_far code readings AtCycle silent polls_at turn s answers boot j b e in none_sent b.sent x.0 x.1;
+        sends = λ k. nothing_sent p.ops t (map (seen o) readings) k can.built first;
       }
 
   pub carries : Carries o p code
@@ -258,7 +265,7 @@ module _ (o : Layout) (p : IntProgram) (can : CanPlace o p) (c : IsChip o.plan.t
           b.t,
           b.is,
           λ readings answers.
-              runs readings b.t s (seen o (started_store o c room s.store fresh.target).reading) fresh.place
+              runs readings b.t s (seen o (started_store o c room s.store fresh.target).reading) fresh.place (ap (λ d. d.sent) b.is.devices)
               (b.reaches (AtCycle readings b.t 0) (λ e place shut good. record {
                 is_at = place;
                 closed = shut;

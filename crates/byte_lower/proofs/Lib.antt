@@ -1,5 +1,4 @@
 pub mod BitLemmas
-pub mod CellLemmas
 pub mod WordLemmas
 pub mod RouteLemmas
 pub mod StoreLemmas
@@ -9,6 +8,8 @@ pub mod WalkLemmas
 pub mod PlaceLemmas
 pub mod CodeLemmas
 pub mod BootLemmas
+pub mod DeviceLemmas
+pub mod NameLemmas
 pub mod CycleLemmas
 pub mod ListLemmas
 pub mod PinLemmas

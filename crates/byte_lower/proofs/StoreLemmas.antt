@@ -22,7 +22,7 @@ use Rattle.byte_code.specs.declared.store.Flag.{Flag}
 use Rattle.byte_code.specs.declared.store.Store.{Store}
 use Rattle.std.specs.Prelude.{Option}
 use Rattle.byte_lower.proofs.BitLemmas.{bit_put, bit_kept, in_byte_is}
-use Rattle.byte_lower.proofs.CellLemmas.{word_put, word_put_other, words_kept, word_kept}
+use Rattle.byte_routines.proofs.CellLemmas.{word_put, word_put_other, words_kept, word_kept}
 use Rattle.byte_lower.proofs.WordLemmas.{literal_word, word_small}
 use Rattle.byte_lower.specs.Layout.{word_cell, bit_cell, pin_at, dest_of, source_of, room_of, HasPins}
 use Rattle.byte_lower.specs.Lists.{number, word_in}
@@ -87,7 +87,7 @@ module _ (o : Layout) (r : Reading) (apart : Apart o) (pins : HasPins o) where
   -- the flag is of no account
   pub any_flag : (d : Store) (t : int.Store) (f : Option Flag) → Good o r d t → Good o r (record d { flag = f }) t
   any_flag d t f g = record {
-    stands = record { bits = g.stands.bits; outputs = g.stands.outputs; numbers = g.stands.numbers };
+    stands = record { bits = g.stands.bits; outputs = g.stands.outputs; numbers = g.stands.numbers; eeprom = g.stands.eeprom };
     levels = g.levels;
     cells = g.cells;
     latches = g.latches;
@@ -110,6 +110,7 @@ module _ (o : Layout) (r : Reading) (apart : Apart o) (pins : HasPins o) where
           numbers = λ v l. subst (IsWordOf (t.number v)) (sym (word_kept d (with_bit_at d (dest_of o (opdest.B j)) x) (word_cell o v)
               (get_or-set_other d.cells a.address (word_cell o v) _ 0 (λ e. (apart.mixed j v h l).0 (sym e)))
               (get_or-set_other d.cells a.address (word_cell o v + 1) _ 0 (λ e. (apart.mixed j v h l).1 (sym e))))) (g.stands.numbers v l);
+          eeprom = g.stands.eeprom;
         };
         levels = g.levels;
         cells = length-set d.cells a.address _ ∙ g.cells;
@@ -129,6 +130,7 @@ module _ (o : Layout) (r : Reading) (apart : Apart o) (pins : HasPins o) where
               (λ e. put_other d.latches a.port a.bit x (pin_at o.outputs k).port (pin_at o.outputs k).bit lt (pins.outputs j h).1 (pins.outputs k l).1
               (λ f i. are_apart j k e (sym (pins.apart k j l h (same_pin (pin_at o.outputs k) a f i)))) ∙ g.stands.outputs k l);
           numbers = g.stands.numbers;
+          eeprom = g.stands.eeprom;
         };
         levels = g.levels;
         cells = g.cells;
@@ -148,6 +150,7 @@ module _ (o : Layout) (r : Reading) (apart : Apart o) (pins : HasPins o) where
               g.stands.bits k l;
           outputs = g.stands.outputs;
           numbers = λ u l. number_by u l (nat_eq v u) refl;
+          eeprom = g.stands.eeprom;
         };
         levels = g.levels;
         cells = words_kept d a n ∙ g.cells;

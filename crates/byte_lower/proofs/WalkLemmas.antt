@@ -63,7 +63,7 @@ difference_names o v (V a) (N n) = ((λ m. refl), tt)
 difference_names o v (N n) (V b) = ((λ m. refl), tt)
 difference_names o v (N n) (N m) = ((λ m. refl), tt)
 
-no_names : (o : Layout) (op : IntOp) (l top : ℕ) → (shape_of op ≡ Opens) ⊎ (shape_of op ≡ Plain) → HasNoNames (list_of o op l top)
+pub no_names : (o : Layout) (op : IntOp) (l top : ℕ) → (shape_of op ≡ Opens) ⊎ (shape_of op ≡ Plain) → HasNoNames (list_of o op l top)
 no_names o (Set b) l top h = ((λ m. refl), tt)
 no_names o (Clr b) l top h = ((λ m. refl), tt)
 no_names o (Cpy b f) l top h = ((λ m. refl), tt)
@@ -89,7 +89,7 @@ abbrev pub Falls : ℕ → List ℕ → Type 0
 Falls bound [] = Unit {0}
 Falls bound (l ∷ labels) = (l < bound) × Falls l labels
 
-falls_up : (a b : ℕ) (labels : List ℕ) → a ≤ b → Falls a labels → Falls b labels
+pub falls_up : (a b : ℕ) (labels : List ℕ) → a ≤ b → Falls a labels → Falls b labels
 falls_up a b [] h f = tt
 falls_up a b (l ∷ labels) h f = (omega (arith, f.0, h), f.1)
 
@@ -173,7 +173,7 @@ kept_asleep r op m depth off = ap (λ b. if b then store_after r op m.store else
 
 -- what the three operations of a guarded write do
 pub record Guarded (o : Layout) (r : Reading) (x y z : IntOp) (g : Guard) : Type 0 where
-  nest : (ops : List IntOp) (es : List Bool) → nests (x ∷ y ∷ z ∷ ops) es ≡ nests ops es
+  pub nest : (ops : List IntOp) (es : List Bool) → nests (x ∷ y ∷ z ∷ ops) es ≡ nests ops es
   ifs : (m : Moment) → (step r z (step r y (step r x m))).ifs ≡ m.ifs
   store : (m : Moment) → (step r z (step r y (step r x m))).store ≡ (if all_run m.ifs then (if same (value_of r m.store g.from) g.is then int.with m.store g.to
       g.value else m.store) else m.store)

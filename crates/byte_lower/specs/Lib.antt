@@ -2,6 +2,7 @@
 pub mod Layout
 pub mod Stands
 pub mod Code
+pub mod Whole
 pub mod Outfit
 pub mod Samples
 -- the list of each operation

@@ -18,11 +18,13 @@ pub record IsWordOf (n : ℤ) (w : ℕ) : Type 0 where
   pub number : IsNumber n
   pub word : w ≡ word_of n
 
--- Each bit of the program, kept or a wire, is at its place; each output is the latch of its pin; each variable's number is its word, low byte first.
+-- Each bit of the program, kept or a wire, is at its place; each output is the latch of its pin; each variable's number is its word, low byte first; the EEPROM
+-- has the same bytes.
 pub record Stands (o : Layout) (d : Store) (t : int.Store) : Type 0 where
   pub bits : (k : ℕ) → k < o.plan.sizes.kept_bits + WIRES → bit_of (cell d (bit_cell o k).address) (bit_cell o k).bit ≡ t.bit k
   pub outputs : (k : ℕ) → k < length o.outputs → bit_of (slice_index d.latches (pin_at o.outputs k).port) (pin_at o.outputs k).bit ≡ t.output k
   pub numbers : (v : ℕ) → v < o.plan.sizes.variables → IsWordOf (t.number v) (word_at d (word_cell o v))
+  pub eeprom : slice_index d.eeprom ≡ t.devices.eeprom
 
 -- what a ladder sees of a chip's pins: each input has the level at its pin
 abbrev pub seen : Layout → PinReading → Reading

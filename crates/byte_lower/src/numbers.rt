@@ -8,8 +8,9 @@ ghost use Rattle.byte_lower.specs.Layout.{room_of};
 ghost use Rattle.byte_lower.specs.Lists as lists;
 
 use crate::layout::Layout;
-use crate::push::{paced, push_all};
+use crate::push::paced;
 use byte_code::prim::{BytePrim, CompareOp, FlagKind, Paced, Prims, Test, WordOp, WordSource};
+use byte_routines::push::push_all;
 use int_code::op::NumSource;
 use ld_base::wrap::wrap16;
 use std::alloc::AllocError;

@@ -8,8 +8,9 @@ ghost use Rattle.byte_lower.specs.Lists as lists;
 use crate::guard::Guard;
 use crate::layout::Layout;
 use crate::numbers::{difference, number, put, sum, unless_equal, unless_less, word};
-use crate::push::{paced, push_all};
+use crate::push::paced;
 use byte_code::prim::{BitOp, BytePrim, Paced, Prims, Test, WordOp};
+use byte_routines::push::push_all;
 use int_code::op::{BitDest, BitSource, IntOp};
 use std::alloc::AllocError;
 

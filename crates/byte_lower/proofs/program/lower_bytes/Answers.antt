@@ -5,6 +5,8 @@ use Rattle.byte_code.specs.declared.prim.Paced.{Paced}
 use Rattle.byte_lower.proofs.AdmitLemmas.{admitted}
 use Rattle.byte_lower.specs.Outfit.{outfit_of}
 use Rattle.byte_lower.proofs.CycleLemmas.{carries}
+use Rattle.byte_lower.proofs.NameLemmas.{whole}
+use Rattle.byte_lower.specs.Whole.{HasLabels}
 use Rattle.byte_lower.specs.Code.{Carries}
 use Rattle.byte_lower.proofs.program.lower_bytes.Goals as goal
 
@@ -12,6 +14,9 @@ pub returns-in-Ok-clause-runs : goal.returns-in-Ok-clause-runs
 returns-in-Ok-clause-runs c =
     subst (Carries c.args.layout.now c.args.program.now) (sym c.in-Ok.ensures) (carries c.args.layout.now c.args.program.now c.requires c.args.layout.now.chip
     c.args.layout.now.plan.ram_fits)
+
+pub returns-in-Ok-clause-whole : goal.returns-in-Ok-clause-whole
+returns-in-Ok-clause-whole c = subst HasLabels (sym c.in-Ok.ensures) (whole c.args.layout.now c.args.program.now c.requires)
 
 pub returns-in-Ok-clause-admitted : goal.returns-in-Ok-clause-admitted
 returns-in-Ok-clause-admitted c =

@@ -1,0 +1,6 @@
+pub mod CellLemmas
+pub mod WorkLemmas
+pub mod WordSteps
+pub mod GoLemmas
+pub mod ProductLemmas
+pub mod QuotientLemmas

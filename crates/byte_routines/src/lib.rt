@@ -1,0 +1,5 @@
+//! Code of the byte machine for products and quotients.
+#![tactic(auto)]
+
+pub mod push;
+pub mod routines;
