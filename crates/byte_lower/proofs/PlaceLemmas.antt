@@ -301,6 +301,15 @@ module _ (o : Layout) (c : IsChip o.plan.target) (room : ram_need o.plan.sizes �
       by (kept lt b e) = record { index = 2 * o.plan.sizes.variables + k / 8; below = omega (arith, lt); is = b.is ∙ ap (λ p. Some p.address) (sym e) }
       by (wired past w e) = absurd (omega (arith, h, past))
 
+  -- a kept bit is in its byte
+  pub kept_at : (k : ℕ) → k < o.plan.sizes.kept_bits →
+      (ram_address o.plan.target (2 * o.plan.sizes.variables + k / 8) ≡ Some (bit_cell o k).address) × ((bit_cell o k).bit ≡ k % 8)
+  kept_at k h = by (bit_view k (omega (arith, h)))
+    where
+      by : BitView k → (ram_address o.plan.target (2 * o.plan.sizes.variables + k / 8) ≡ Some (bit_cell o k).address) × ((bit_cell o k).bit ≡ k % 8)
+      by (kept lt b e) = (b.is ∙ ap (λ p. Some p.address) (sym e), ap (λ p. p.bit) e)
+      by (wired past w e) = absurd (omega (arith, h, past))
+
   pub low_listed : (v : ℕ) → v < o.plan.sizes.variables → Listed (word_cell o v)
   low_listed v h = record { index = 2 * v; below = omega (arith, h); is = (word_view v h).low }
 
