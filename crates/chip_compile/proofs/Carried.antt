@@ -126,7 +126,7 @@ module _ {M : Type 0} (chip : Chip M) (t : Target M) (p : Project) (o : Layout) 
       let stands = h.bytes.1.1.1 in
       let silent : b.sent ≡ [] = run.silent h.bytes.0 b at_byte in
       let sent : c.sent ≡ [] = front_of_none c.sent stands.sent.0 (stands.sent.1 ∙ silent) in
-      let e = ends_at (slice_index eeprom) first readings (begun_shown begun.bytes.store.eeprom eeprom first each.1.0 begun.kept) run.quiet c.taken
+      let e = ends_at (slice_index eeprom) first readings (begun_shown begun.bytes.store.eeprom eeprom first each.1.0 begun.kept) run.sends c.taken
       (taken_few (t.step (words ++ rest)) m readings answers j c there) in
       record {
         goes_on = subst (λ (step : Stepper M). onward step c ≢ IsStuck) same h.not_stuck;
@@ -139,10 +139,11 @@ module _ {M : Type 0} (chip : Chip M) (t : Target M) (p : Project) (o : Layout) 
             let shows = stands.asks (subst (λ (step : Stepper M). ask_of step c.state ≡ ask.Reading) (sym same) asks) in
             let poll = shows.poll in
             let stood = run.polls h.bytes.0 b poll.0 at_byte poll.1.0 poll.1.1 in
+            let started = run.started h.bytes.0 b poll.0 at_byte poll.1.0 poll.1.1 in
             record {
               shows = state_shown p o program linked (chip.view c.state) b.state.bytes.store (store_behind program.ops first (map (seen o) readings) c.taken)
-                  e.end.state (serves.shows c.state b.state.bytes shows.shows)
-                  (subst (λ (k : ℕ). Stands o b.state.bytes.store (store_behind program.ops first (map (seen o) readings) k)) (sym stands.taken) stood) e.shows;
+                  e.end.state (serves.shows c.state b.state.bytes shows.shows started)
+                  (subst (λ (k : ℕ). Stands o b.state.bytes.store (store_behind program.ops first (map (seen o) readings) k)) (sym stands.taken) stood.0) e.shows;
               sent = sent ∙ sym e.silent;
             };
       }

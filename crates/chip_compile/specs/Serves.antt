@@ -36,4 +36,4 @@ pub record Serves {M : Type 0} (chip : Chip M) (t : Target M) (o : Layout) : Typ
   pub wait : t.wait ≡ chip.wait
   pub reads : (r : PinReading) → chip.reads r → t.reads r
   pub reset : (eeprom : List ℕ) (m : M) → chip.is_reset eeprom m → StandsFresh t o eeprom m
-  pub shows : (m : M) (s : Bytes) → t.shows m s → HoldsStore o (chip.view m) s.store
+  pub shows : (m : M) (s : Bytes) → t.shows m s → s.started ≡ true → HoldsStore o (chip.view m) s.store

@@ -654,13 +654,15 @@ module _ {M : Type 0} (lay : Laid M) (code : List Paced) (forms : List Form) (sa
     shows_where c b fm h ne r m budget _ same (here awaits) sent asks =
         let awaits' : lay.awaits c.state b.state.bytes = subst (λ x. lay.awaits x b.state.bytes) (sym same) awaits in
         let kind = law.asks c.state b.state.bytes fm (may_begin b r fm h) ne awaits' in
-        let polls : shape_of fm.paced.prim ≡ AtPoll =
-        ⊎_elim (λ e. e) (λ e. absurd (cc (kind, asks, ap asked_in e))) (poll_kind (shape_of fm.paced.prim) ne) in
         record {
           shows = law.shown c.state b.state.bytes awaits';
           sent = sent;
-          poll = (fm.paced, code_at b.state.bytes.place fm h, polls);
-          started = (may_begin b r fm h).begins ∙ ap (λ x. not (starts_in x)) polls;
+          poll = (
+            fm.paced,
+            code_at b.state.bytes.place fm h,
+            ⊎_elim (λ e. e) (λ e. absurd (cc (kind, asks, ap asked_in e)))
+                (poll_kind (shape_of fm.paced.prim) ne),
+          );
         }
     shows_where c b fm h ne r m budget _ same (on w left asked is bound further) sent asks = absurd (cc (ap (ask_of lay.step) same, asked, asks))
 

@@ -63,12 +63,11 @@ pub record LaidLaw {M : Type 0} (l : Laid M) (code : List Paced) (forms : List F
   pub within : (i : ℕ) (f : Form) → slice_get forms i ≡ Some f → asked_by f.paced.prim ≢ ask.Nothing → f.enter + f.leave ≤ f.cycles
   pub shown : (m : M) (s : Bytes) → l.awaits m s → l.shows m s
 
--- the machine shows the byte state, which is at a cycle poll behind the start, and all bytes are sent
+-- the machine shows the byte state, which is at a cycle poll, and all bytes are sent
 pub record LaidShows {M : Type 0} (l : Laid M) (code : List Paced) (c : Moment M) (b : Moment Counted) : Type 0 where
   pub shows : l.shows c.state b.state.bytes
   pub sent : c.sent ≡ b.sent
   pub poll : (p : Paced) × (slice_get code b.state.bytes.place ≡ Some p) × (shape_of p.prim ≡ AtPoll)
-  pub started : b.state.bytes.started ≡ true
 
 -- The two moments have the same drive behind them, the machine sent a beginning of the bytes, and where it asks for a reading it shows the byte state.
 pub record LaidStands {M : Type 0} (l : Laid M) (code : List Paced) (c : Moment M) (b : Moment Counted) : Type 0 where
