@@ -130,6 +130,7 @@ record Started (code rest : List Paced) (o : Layout) (p : IntProgram) (r : Readi
   ahead : drop at code ≡ start_values o ns v ++ polling (Label 0) ∷ rest
   is_at : s.place ≡ at
   closed : s.open_call ≡ None
+  started : s.started ≡ true
   good : Good o r s.store t
   bits : (k : ℕ) → k < o.plan.sizes.kept_bits → t.bit k ≡ false
   outputs : (k : ℕ) → k < length o.outputs → t.output k ≡ false
@@ -144,7 +145,7 @@ record Started (code rest : List Paced) (o : Layout) (p : IntProgram) (r : Readi
 pub record Booted (code : List Paced) (o : Layout) (p : IntProgram) (r : Reading) (eeprom : ℕ → ℕ) (poll : ℕ) (s : Bytes) : Type 1 where
   pub t : int.Store
   pub is : IsStart o p eeprom t
-  pub reaches : (Goal : Bytes → Type 0) → ((e : Bytes) → e.place ≡ poll → e.open_call ≡ None → Good o r e.store t → Goal e) → Reaches code Goal poll s
+  pub reaches : (Goal : Bytes → Type 0) → ((e : Bytes) → e.place ≡ poll → e.open_call ≡ None → e.started ≡ true → Good o r e.store t → Goal e) → Reaches code Goal poll s
 
 module _ (code rest : List Paced) (o : Layout) (p : IntProgram) (r : Reading) (eeprom : ℕ → ℕ) (apart : Apart o) (pins : HasPins o) where
   abbrev Begun : List ℤ → ℕ → ℕ → Bytes → int.Store → Type 0
@@ -156,7 +157,7 @@ module _ (code rest : List Paced) (o : Layout) (p : IntProgram) (r : Reading) (e
     is = record { bits = b.bits; outputs = b.outputs; numbers = λ u h. by u (nat_le v u) refl; devices = b.devices };
     reaches = λ Goal g. go code Goal (suc at) s (polling (Label 0)) (ap (slice_get code) b.is_at ∙ here code at (polling (Label 0)) rest b.ahead) refl (tt, tt)
         refl (omega arith)
-        (arrive code Goal (suc at) (next_with s (plain s.store)) (g (next_with s (plain s.store)) (ap suc b.is_at) b.closed
+        (arrive code Goal (suc at) (next_with s (plain s.store)) (g (next_with s (plain s.store)) (ap suc b.is_at) b.closed b.started
         (any_flag o r apart pins s.store t None b.good)) (ap suc b.is_at));
   }
     where
@@ -183,6 +184,7 @@ module _ (code rest : List Paced) (o : Layout) (p : IntProgram) (r : Reading) (e
         ahead = ahead;
         is_at = b.is_at;
         closed = b.closed;
+        started = b.started;
         good = b.good;
         bits = b.bits;
         outputs = b.outputs;
@@ -212,6 +214,7 @@ module _ (code rest : List Paced) (o : Layout) (p : IntProgram) (r : Reading) (e
         ahead = behind code at move behind_it ahead;
         is_at = ap suc b.is_at;
         closed = b.closed;
+        started = b.started;
         good = good1;
         bits = b.bits;
         outputs = b.outputs;
@@ -300,6 +303,7 @@ booted_start code rest o p can c room apart s fresh whole =
       ahead = behind code 0 first after whole;
       is_at = ap suc fresh.place;
       closed = fresh.closed;
+      started = refl;
       good = first_good o c room s.store fresh.target fresh.cells fresh.latches fresh.shown;
       bits = first_bits o c room s.store fresh.target;
       outputs = first_outputs o c room s.store fresh.target fresh.latches;

@@ -1,8 +1,9 @@
 -- The runs of a program's code, cycle by cycle.
 use Rattle.std.proofs.Common.{◌≡◌, ℕ, zero, suc, ◌+◌, ◌<◌, ◌≤◌, inl, Bool, true, false, List, [], ◌∷◌, ◌++◌, drop, length, map, Some, None, refl, sym, ap, subst, ◌∙◌, arith, append_assoc}
-use Rattle.std.specs.Prelude.{slice_get, nat_le}
+use Rattle.std.specs.Prelude.{Option, slice_get, nat_le}
 use Rattle.std.proofs.lemmas.Bool.Decides.{nat_tests}
 use Rattle.chip_tables.specs.Memory.{ram_size}
+use Rattle.chip_tables.specs.Outside.{no_reading}
 use Rattle.chip_tables.specs.declared.outside.PinReading.{PinReading}
 use Rattle.mem_plan.specs.Needs.{ram_need}
 use Rattle.mem_plan.specs.Places.{IsChip}
@@ -13,13 +14,16 @@ use Rattle.int_code.specs.declared.op.IntOp.{IntOp}
 use Rattle.int_code.specs.declared.op.IntProgram.{IntProgram}
 use Rattle.byte_code.specs.declared.prim.BytePrim.TheVariants.{Start, CyclePoll, Label, Jump}
 use Rattle.byte_code.specs.declared.prim.Paced.{Paced}
-use Rattle.byte_code.specs.declared.prim.Shape.TheVariants.{AtPoll}
+use Rattle.byte_code.specs.declared.prim.BytePrim.{BytePrim}
+use Rattle.byte_code.specs.declared.prim.Shape.{Shape}
+use Rattle.byte_code.specs.declared.prim.Shape.TheVariants.{AtStart, AtPoll, AtDevice, Names, Jumps, Branches, Calls, Returns, Straight}
+use Rattle.byte_code.specs.declared.store.Store as bytes
 use Rattle.byte_code.specs.declared.state.Bytes.{Bytes}
-use Rattle.byte_code.specs.Machine.{label_place, next_with, polled}
+use Rattle.byte_code.specs.Machine.{act, label_place, next_with, polled, returned, shaped}
 use Rattle.byte_code.specs.Table.{effect, plain}
 use Rattle.byte_code.specs.Table as table
 use Rattle.byte_code.proofs.Times.{times}
-use Rattle.byte_code.proofs.Ways.{Way, there, acts, way_on, Segment, Polls, keeps_counts, at_each, sent_so_far}
+use Rattle.byte_code.proofs.Ways.{Way, there, acts, waits, way_on, Segment, Polls, keeps_counts, at_each, sent_so_far}
 use Rattle.byte_lower.proofs.DeviceLemmas.{nothing_sent}
 use Rattle.byte_lower.proofs.BootLemmas.{started_store, seen_levels, booted_start}
 use Rattle.byte_lower.proofs.CodeLemmas.{Every, every_on, TurnsOnce, BootsOnce, IsNoPoll, lists_turn, starts_boot, starts_wait, starts_names, in_front, from_place, times_on}
@@ -31,6 +35,33 @@ use Rattle.byte_lower.specs.Code.{booted, polling, start_values, code_of, CanPla
 use Rattle.byte_lower.specs.Lists.{paced, lists_of}
 use Rattle.byte_lower.specs.Stands.{Stands, seen}
 use Rattle.byte_lower.specs.declared.layout.Layout.{Layout}
+
+-- a step leaves the start behind
+step_started : (code : List Paced) (p : BytePrim) (h : Shape) (s : Bytes) (d : bytes.Store) → s.started ≡ true →
+    (shaped code p h s d false no_reading).next.started ≡ true
+step_started code p AtStart s d e = refl
+step_started code p AtPoll s d e = e
+step_started code p AtDevice s d e = e
+step_started code p (Names l) s d e = e
+step_started code p (Jumps l) s d e = e
+step_started code p (Branches l) s d e = e
+step_started code p (Calls l) s d e = e
+step_started code p Returns s d e = by s.open_call
+  where
+    by : (o : Option ℕ) → (returned s d o).started ≡ true
+    by None = e
+    by (Some place) = e
+step_started code p Straight s d e = e
+
+-- as a way does
+way_started : (code : List Paced) (T : Bytes → Type 0) (s : Bytes) (begun sent : List ℕ) → s.started ≡ true → Way code T s begun sent →
+    Way code (λ e. T e × (e.started ≡ true)) s begun sent
+way_started code T s _ _ e (there h) = there (h, e)
+way_started code T s _ _ e (acts {begun = begun} {sent = sent} p h plain fits w) =
+    acts p h plain fits (way_started code T (act code p.prim s false no_reading).next begun sent (step_started code p.prim (table.shape_of p.prim) s
+    (effect p.prim s.store) e) w)
+way_started code T s _ _ e (waits {begun = begun} {sent = sent} p h polls fits w) =
+    waits p h polls fits (way_started code T (next_with s (effect p.prim s.store)) begun sent e w)
 
 none_sent : (xs ys : List ℕ) → xs ++ ys ≡ [] → xs ≡ []
 none_sent [] ys e = refl
@@ -124,6 +155,7 @@ module _ (o : Layout) (p : IntProgram) (can : CanPlace o p) (c : IsChip o.plan.t
     record AtCycle (k : ℕ) (s : Bytes) : Type 0 where
       is_at : s.place ≡ suc loop
       closed : s.open_call ≡ None
+      started : s.started ≡ true
       stands : Stands o s.store (store_behind p.ops t (map (seen o) readings) k)
       cells : length s.store.cells ≡ 1120
       latches : length s.store.latches ≡ 5
@@ -185,14 +217,15 @@ module _ (o : Layout) (p : IntProgram) (can : CanPlace o p) (c : IsChip o.plan.t
             };
           })
 
-      goes_back : (e : Bytes) → AtJump e → Way code (AtCycle (suc k)) e back []
-      goes_back e g =
+      goes_back : (e : Bytes) → AtJump e × (e.started ≡ true) → Way code (AtCycle (suc k)) e back []
+      goes_back e (g, begun) =
           acts (paced (Jump 0)) (ap (slice_get code) g.0 ∙ here code last (paced (Jump 0)) [] at_jump) refl (tt, tt)
           (acts (polling (Label 0)) (ap (slice_get code) loop_is ∙ here code loop (polling (Label 0)) (polling (CyclePoll 0) ∷ (lists ++ paced (Jump 0) ∷ []))
           at_loop) refl (tt, tt)
           (there (record {
             is_at = ap suc loop_is;
             closed = g.1;
+            started = begun;
             stands = subst (Stands o (plain (plain e.store))) (sym (behind_on p.ops t (map (seen o) readings) k (seen o r) (seen_at o readings k r read)))
                 (any_flag o (seen o r) (places_apart o c room) can.pins e.store ended.store None g.2).stands;
             cells = g.2.cells;
@@ -224,7 +257,8 @@ module _ (o : Layout) (p : IntProgram) (can : CanPlace o p) (c : IsChip o.plan.t
       turn_at : Segment code readings AtCycle silent (suc k) taken
       turn_at = record {
         begun = walked.begun ++ back;
-        way = way_on code AtJump (AtCycle (suc k)) taken walked.begun [] back [] walked.way goes_back;
+        way = way_on code (λ e. AtJump e × (e.started ≡ true)) (AtCycle (suc k)) taken walked.begun [] back []
+            (way_started code AtJump taken walked.begun [] h.started walked.way) goes_back;
         counts = λ i q e. subst (λ n. n ≤ q.turns) (sym (times_on i (taken.place ∷ walked.begun) back)) (few_by i q.turns (nat_le loop i) (nat_le i (suc loop))
             refl refl (turns_once i q e));
       }
@@ -254,6 +288,7 @@ module _ (o : Layout) (p : IntProgram) (can : CanPlace o p) (c : IsChip o.plan.t
       runs answers = record {
         counts = keeps_counts code readings AtCycle silent polls_at turn s answers boot polls_turn;
         polls = λ j b q e h poll. let x = at_each code readings AtCycle silent polls_at turn s answers boot j b q e h poll in (x.0.stands, x.1);
+        started = λ j b q e h poll. (at_each code readings AtCycle silent polls_at turn s answers boot j b q e h poll).0.started;
         silent = λ j b e. let x = sent_so_far code readings AtCycle silent polls_at turn s answers boot j b e in none_sent b.sent x.0 x.1;
         sends = λ k. nothing_sent p.ops t (map (seen o) readings) k can.built first;
       }
@@ -266,9 +301,10 @@ module _ (o : Layout) (p : IntProgram) (can : CanPlace o p) (c : IsChip o.plan.t
           b.is,
           λ readings answers.
               runs readings b.t s (seen o (started_store o c room s.store fresh.target).reading) fresh.place (ap (λ d. d.sent) b.is.devices)
-              (b.reaches (AtCycle readings b.t 0) (λ e place shut good. record {
+              (b.reaches (AtCycle readings b.t 0) (λ e place shut begun good. record {
                 is_at = place;
                 closed = shut;
+                started = begun;
                 stands = good.stands;
                 cells = good.cells;
                 latches = good.latches;
