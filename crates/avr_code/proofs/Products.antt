@@ -45,7 +45,7 @@ pub written_back : (f : ℕ → ℕ) (a b : ℕ) → changed f a (f a) b ≡ f b
 written_back f a b = ⊎_elim (λ (same : b ≡ a). ap (λ t. if t then f a else f b) (eq-eqb b a same) ∙ ap f (sym same))
     (λ (other : b ≢ a). ap (λ t. if t then f a else f b) (ne_eqb b a other)) (cases_eq b a)
 
-word_back : (f : ℕ → ℕ) (a b : ℕ) → changed (changed f a (f a)) (a + 1) (f (a + 1)) b ≡ f b
+pub word_back : (f : ℕ → ℕ) (a b : ℕ) → changed (changed f a (f a)) (a + 1) (f (a + 1)) b ≡ f b
 word_back f a b = ap (λ y. if b == (a + 1) then f (a + 1) else y) (written_back f a b) ∙ written_back f (a + 1) b
 
 -- the opposite of a word, where R1 is z
@@ -116,25 +116,25 @@ lessened f =
 abbrev Spares : (ℕ → ℕ) → (ℕ → ℕ) → Type 0
 Spares f g = (n : ℕ) → (n == 22) ≡ false → (n == 23) ≡ false → (n == 24) ≡ false → (n == 25) ≡ false → (n == 30) ≡ false → (n == 31) ≡ false → g n ≡ f n
 
-a_low : IsCell 24
+pub a_low : IsCell 24
 a_low = inl (lit< tt, refl, refl)
 
-a_high : IsCell 25
+pub a_high : IsCell 25
 a_high = inl (lit< tt, refl, refl)
 
-b_low : IsCell 22
+pub b_low : IsCell 22
 b_low = inl (lit< tt, refl, refl)
 
-b_high : IsCell 23
+pub b_high : IsCell 23
 b_high = inl (lit< tt, refl, refl)
 
-r_low : IsCell 30
+pub r_low : IsCell 30
 r_low = inl (lit< tt, refl, refl)
 
-r_high : IsCell 31
+pub r_high : IsCell 31
 r_high = inl (lit< tt, refl, refl)
 
-abbrev taking : (ℕ → ℕ) → ℕ → ℕ → ℕ → ℕ
+abbrev pub taking : (ℕ → ℕ) → ℕ → ℕ → ℕ → ℕ
 taking f a n = changed (changed f a (n % 256)) (a + 1) (n / 256 % 256)
 
 -- R and A take words

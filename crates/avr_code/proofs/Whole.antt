@@ -33,6 +33,7 @@ use Rattle.avr_code.proofs.Control as control
 use Rattle.avr_code.proofs.Polling as polling
 use Rattle.avr_code.proofs.Primitives as law
 use Rattle.avr_code.proofs.Products as products
+use Rattle.avr_code.proofs.Tables as tables
 use Rattle.avr_code.proofs.Walk.{sizes}
 
 word_length : (i : AvrInsn) → (size_of i ≡ 1) ⊎ (size_of i ≡ 2) → length (words_by (size_of i) i) ≡ size_of i
@@ -69,7 +70,7 @@ same_size board (AdcPoll l) labels h = absurd h
 same_size board (Bit op) labels h = refl
 same_size board (Device op) labels h = absurd h
 same_size board (Eeprom op) labels h = absurd h
-same_size board (Table values l) labels h = absurd h
+same_size board (Table values l) labels h = refl
 
 abbrev IsFull : List Piece → Type 0
 IsFull [] = ⊥
@@ -146,7 +147,11 @@ worded board (AdcPoll l) h e = absurd h
 worded board (Bit op) h e = some_words (bit_code op) (bit_full board op h)
 worded board (Device op) h e = absurd h
 worded board (Eeprom op) h e = absurd h
-worded board (Table values l) h e = absurd h
+worded board (Table [] l) h e = h.0
+worded board (Table (x ∷ xs) l) h e = some_words (code_of (Table (x ∷ xs) l) []) tt
+
+none : 0 < 0 → ⊥
+none low = omega (arith, low)
 
 inside : (p : BytePrim) → asked_by p ≢ ask.Nothing → 0 + leave_count p ≤ cycle_count p
 inside (CyclePoll l) ne = lit≤ tt
@@ -232,7 +237,8 @@ module _ (board : Board) (lay : Layout) (m : AvrState) (s : Bytes) (st : StandsA
   plainly (Bit op) ready q low = bits.bit_goes board lay m s st low op ready
   plainly (Device op) ready q low = absurd ready.admitted
   plainly (Eeprom op) ready q low = absurd ready.admitted
-  plainly (Table values l) ready q low = absurd ready.admitted
+  plainly (Table [] l) ready q low = absurd (none ready.admitted.0)
+  plainly (Table (x ∷ xs) l) ready q low = tables.table board lay m s x xs l ready low st
 
   asks : (p : BytePrim) → Ready p → asked_by p ≢ ask.Nothing → ask_of (steps_over (avr_step mega16) lay.flash) m ≡ asked_by p
   asks p ready ne =

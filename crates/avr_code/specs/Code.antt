@@ -2,7 +2,7 @@
 --
 -- R1 holds 0; R16 to R19 hold nothing between two primitives. A word is computed in R16 and R17, its low byte first, with the other operand in R18 and
 -- R19. The cells below 20h are registers, and the others are in the SRAM.
-use Rattle.std.specs.Prelude.{ℕ, ◌+◌, ◌-◌, ◌^◌, ◌==◌, ◌&&◌, ◌||◌, not, nat_le, nat_lt, Bool, true, false, if◌then◌else◌, List, [], ◌∷◌, ◌++◌, slice_index}
+use Rattle.std.specs.Prelude.{ℕ, ◌+◌, ◌-◌, ◌/◌, ◌%◌, ◌^◌, ◌==◌, ◌&&◌, ◌||◌, not, nat_le, nat_lt, Bool, true, false, if◌then◌else◌, List, [], ◌∷◌, ◌++◌, slice_index}
 use Rattle.chip_tables.specs.Bits.{as_bit}
 use Rattle.byte_code.specs.declared.prim.BytePrim.{BytePrim}
 use Rattle.byte_code.specs.declared.prim.BytePrim.TheVariants.{Start, CyclePoll, AdcPoll, Label, Jump, Call, Return, JumpWhere, Bit, Byte, Word, Compare, Device, Eeprom, Table}
@@ -199,6 +199,12 @@ compare_code (compares.Below a n) =
 abbrev pub poll_code : List Piece
 poll_code = Plain (insn.In 16 0x38) ∷ Plain (insn.Sbrs 16 4) ∷ Plain (insn.Rjmp 4093) ∷ Plain (insn.Out 0x38 16) ∷ []
 
+-- A becomes the value whose index is the low byte of R: each index is compared
+abbrev pub table_code : ℕ → List ℕ → List Piece
+table_code i [] = []
+table_code i (x ∷ xs) =
+    Plain (insn.Cpi 30 i) ∷ Plain (insn.Brbc 1 2) ∷ Plain (insn.Ldi 24 (x % 256)) ∷ Plain (insn.Ldi 25 (x / 256 % 256)) ∷ table_code (i + 1) xs
+
 abbrev pub code_of : BytePrim → List ℕ → List Piece
 code_of (CyclePoll l) labels = poll_code
 code_of (Label l) labels = []
@@ -214,7 +220,7 @@ code_of (AdcPoll l) labels = []
 code_of (Bit op) labels = bit_code op
 code_of (Device op) labels = []
 code_of (Eeprom op) labels = []
-code_of (Table values l) labels = []
+code_of (Table values l) labels = table_code 0 values
 
 -- the words that stand in flash for an instruction, the first one and what may follow it
 abbrev pub words_by : ℕ → AvrInsn → List ℕ

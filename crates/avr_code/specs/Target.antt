@@ -1,5 +1,5 @@
 -- The ATmega16 as a target of the assembler, for the primitives that are admitted.
-use Rattle.std.specs.Prelude.{◌≡◌, ◌⊎◌, ℕ, ◌+◌, ◌<◌, true, false}
+use Rattle.std.specs.Prelude.{◌≡◌, ◌⊎◌, ℕ, ◌+◌, ◌<◌, ◌≤◌, length, true, false}
 use Rattle.chip_tables.specs.Bits.{bit_of}
 use Rattle.chip_tables.specs.declared.mega16.TheConstants.{FLASH_WORDS}
 use Rattle.byte_code.specs.declared.prim.BytePrim.{BytePrim}
@@ -92,7 +92,7 @@ AdmitsCompare (compares.Less a b) = IsWord a × ReadsWord b
 AdmitsCompare (compares.Equal a b) = IsWord a × ReadsWord b
 AdmitsCompare (compares.Below a n) = IsWord a × (n < 256)
 
--- The cycle poll, calls, jumps but those by a bit or a device, bytes, words and comparisons. Not yet: the start, bits, devices and tables.
+-- The cycle poll, calls, jumps but those by a bit or a device, bytes, words, comparisons and tables. Not yet: the start, bits, devices and tables.
 abbrev pub Admits : Board → BytePrim → Type 0
 Admits board (Label l) = Unit {0}
 Admits board (Jump l) = Unit {0}
@@ -108,7 +108,7 @@ Admits board (AdcPoll l) = ⊥
 Admits board (Bit op) = AdmitsBit board op
 Admits board (Device op) = ⊥
 Admits board (Eeprom op) = ⊥
-Admits board (Table values l) = ⊥
+Admits board (Table values l) = (0 < length values) × (length values ≤ 256)
 
 -- the cycles of a poll from the step that is answered that it is ready
 abbrev pub leave_count : BytePrim → ℕ
