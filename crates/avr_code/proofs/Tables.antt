@@ -1,9 +1,8 @@
 -- Tables: the index is compared with each place, from 0 on.
-use Rattle.std.proofs.Common.{◌≡◌, ◌≢◌, ◌⊎◌, ⊎_elim, inl, inr, ℕ, zero, suc, ◌+◌, ◌-◌, ◌*◌, ◌/◌, ◌%◌, ◌<◌, ◌≤◌, Bool, true, false, List, [], ◌∷◌, length, None, refl, sym, ap, ap₂, ◌∙◌, subst, arith, lit<, lit≤, eq-eqb}
+use Rattle.std.proofs.Common.{◌≡◌, ◌≢◌, ◌⊎◌, inl, inr, ℕ, zero, suc, ◌+◌, ◌*◌, ◌/◌, ◌%◌, ◌<◌, ◌≤◌, Bool, true, false, List, [], ◌∷◌, length, refl, sym, ap, ap₂, ◌∙◌, subst, arith, lit<, lit≤, eq-eqb}
 use Rattle.std.proofs.lemmas.Bool.{cases_eq, ne_eqb}
-use Rattle.std.specs.Prelude.{◌==◌, ◌&&◌, not, if◌then◌else◌, slice_index, slice_index_or}
+use Rattle.std.specs.Prelude.{◌==◌, ◌&&◌, if◌then◌else◌, slice_index, slice_index_or}
 use Rattle.chip_tables.specs.Outside.{no_reading}
-use Rattle.chip_tables.specs.Scratch.{avr_scratch}
 use Rattle.chip_tables.specs.declared.scratch.Scratch.{Scratch}
 use Rattle.runs.specs.Chip.{steps_over}
 use Rattle.byte_code.specs.declared.prim.BytePrim.{BytePrim}
@@ -19,10 +18,10 @@ use Rattle.avr_mach.specs.Arithmetic.{difference}
 use Rattle.avr_mach.specs.Step.{avr_step}
 use Rattle.avr_devices.specs.Part.{mega16}
 use Rattle.target_core.specs.Law.{Moves, IsReady, Layout}
-use Rattle.avr_code.specs.Code.{Piece, Plain, size_in, cycle_count, table_code}
-use Rattle.avr_code.specs.Stands.{Board, StandsAt}
+use Rattle.avr_code.specs.Code.{Board, Plain, size_in, cycle_count, table_code}
+use Rattle.avr_code.specs.Stands.{StandsAt}
 use Rattle.avr_code.specs.Target.{avr_target}
-use Rattle.avr_code.proofs.Paths.{Paths, At, Fork, Near, Ahead, Lost, bump, AllGood, AllPiecesFit, paths}
+use Rattle.avr_code.proofs.Paths.{Paths, At, Fork, Near, Ahead, Lost, AllGood, AllPiecesFit, paths}
 use Rattle.avr_code.proofs.Primitives.{coded, Ends, good_bump, is_false, is_true}
 use Rattle.avr_code.proofs.Products.{taking, word_back, a_low, a_high, r_low}
 use Rattle.avr_code.proofs.Standing.{Has, Alike, alike, has_word_by, ViewStands}
@@ -72,7 +71,7 @@ replaced f g a b x y n = by (n == 25) (n == 24)
     by false true e = refl
     by false false e = e
 
-good_more : (n k : ℕ) (E : View → Type 0) (w : Paths) → n ≤ k → AllGood n E w → AllGood k E w
+pub good_more : (n k : ℕ) (E : View → Type 0) (w : Paths) → n ≤ k → AllGood n E w → AllGood k E w
 good_more n k E (At v d) le g = (let e = g.0 in omega (arith, e, le), g.1)
 good_more n k E (Fork t a b) le g = (λ e. good_more n k E a le (g.0 e), λ e. good_more n k E b le (g.1 e))
 good_more n k E (Near t p a b) le g = (λ e. ((g.0 e).0, good_more n k E a le (g.0 e).1), λ e. good_more n k E b le (g.1 e))
@@ -163,7 +162,7 @@ module _ (board : Board) (lay : Layout) (m : AvrState) (s : Bytes) where
   Ready p = IsReady (avr_target board) lay s p
 
   abbrev Goes : BytePrim → Type 0
-  Goes p = Moves (steps_over (avr_step mega16) lay.flash) (StandsAt board lay.places) m (cycle_count p) s (act lay.code p s false no_reading)
+  Goes p = Moves (steps_over (avr_step mega16) lay.flash) (StandsAt board lay.places) m (cycle_count board p) s (act lay.code p s false no_reading)
 
   abbrev tabled_by : List ℕ → Scratch → Store → Bytes
   tabled_by values c d = record s { place = suc s.place; store = plain (with_word d c.left (slice_index_or values (cell d c.outcome) 0)) }
@@ -172,7 +171,8 @@ module _ (board : Board) (lay : Layout) (m : AvrState) (s : Bytes) where
       Goes (Table (x ∷ xs) l)
   table x xs l ready low st = coded board lay m s (Table (x ∷ xs) l) (Plain (insn.Cpi 30 0)) (Plain (insn.Brbc 1 2) ∷ Plain (insn.Ldi 24 (x % 256)) ∷ Plain
       (insn.Ldi 25 (x / 256 % 256)) ∷ table_code 1 xs) ready refl refl refl (all_fit (x ∷ xs) 0 (from_zero _ ready.admitted.1)) st
-      (λ v h. good_more (size_in (table_code 0 (x ∷ xs))) (cycle_count (Table (x ∷ xs) l)) (Ends board lay m s (Table (x ∷ xs) l)) (paths (table_code 0 (x ∷
+      (λ v h. good_more (size_in (table_code 0 (x ∷ xs))) (cycle_count board (Table (x ∷ xs) l)) (Ends board lay m s (Table (x ∷ xs) l))
+      (paths (table_code 0 (x ∷
       xs)) 0 v) (le_zero (size_in (table_code 0 (x ∷ xs))))
       (good v (cell s.store 30) (slice_index lay.places (suc s.place)) (Ends board lay m s (Table (x ∷ xs) l)) (h.has.holds.cells 30 r_low)
       (h.has.holds.bytes 30) low (x ∷ xs) 0 v (v.cells 24 + v.cells 25 * 256) (slice_index_or (x ∷ xs) (cell s.store 30) 0)
