@@ -1,7 +1,7 @@
 -- Bits: the wires, those of cells, latches and levels.
-use Rattle.std.proofs.Common.{◌≡◌, ◌≢◌, ◌⊎◌, inl, inr, ℕ, suc, ◌+◌, ◌-◌, ◌%◌, ◌^◌, ◌<◌, ◌≤◌, Bool, true, false, List, [], ◌∷◌, Option, Some, None, refl, sym, ap, ap₂, ◌∙◌, subst, arith, lit<, lit≤}
-use Rattle.std.proofs.lemmas.Bool.{cases_eq, ne_eqb, le-ltb, lt-leb, true≢false, false≢true}
-use Rattle.std.specs.Prelude.{◌==◌, ◌&&◌, ◌||◌, nat_le, not, if◌then◌else◌, slice_index, bit_and, bit_or}
+use Rattle.std.proofs.Common.{◌≡◌, ◌≢◌, ◌⊎◌, inl, inr, ℕ, suc, ◌+◌, ◌-◌, ◌^◌, ◌<◌, ◌≤◌, Bool, true, false, List, [], ◌∷◌, Option, Some, None, refl, sym, ap, ap₂, ◌∙◌, subst, arith, lit<, lit≤}
+use Rattle.std.proofs.lemmas.Bool.{cases_eq, ne_eqb, lt-leb, true≢false}
+use Rattle.std.specs.Prelude.{◌==◌, ◌&&◌, ◌||◌, nat_le, not, if◌then◌else◌, slice_index}
 use Rattle.chip_tables.specs.Bits.{bit_of, as_bit}
 use Rattle.chip_tables.specs.Outside.{no_reading}
 use Rattle.chip_tables.specs.declared.pins.PortBit.{PortBit}
@@ -29,15 +29,15 @@ use Rattle.avr_mach.specs.Step.{avr_step, at_place}
 use Rattle.avr_mach.specs.Words.{size_of}
 use Rattle.avr_devices.specs.Part.{mega16}
 use Rattle.target_core.specs.Law.{Moves, IsReady, Layout}
-use Rattle.avr_code.specs.Code.{Piece, Plain, Loads, Stores, Fetches, Gives, Latches, insn_of, is_wire, bit_no, by_cell, status_bit, code_of, size_in, cycle_count, more_cycles}
-use Rattle.avr_code.specs.Stands.{Board, direction, IsCell, HasFlag, StandsAt}
-use Rattle.avr_code.specs.Target.{avr_target, IsWireBit, ReadsBit, WritesBit, WritesWire}
+use Rattle.avr_code.specs.Code.{Board, direction, Piece, Plain, Loads, Stores, Fetches, Gives, Latches, insn_of, is_wire, bit_no, by_cell, status_bit, code_of, size_in, cycle_count, more_cycles}
+use Rattle.avr_code.specs.Stands.{IsCell, HasFlag, StandsAt}
+use Rattle.avr_code.specs.Target.{avr_target, ReadsBit, WritesBit, WritesWire}
 use Rattle.avr_code.proofs.BitFacts.{low_of, power_small, rest_small, with_bit_small, pins_level}
 use Rattle.avr_code.proofs.Effects.{FetchFits, fetched, held}
 use Rattle.avr_code.proofs.Paths.{AllGood, AllPiecesFit, paths}
 use Rattle.avr_code.proofs.Primitives.{coded, Ends, is_false, is_true, le_more, load_size, store_size, flag_value, status_low}
 use Rattle.avr_code.proofs.Products.{written_back}
-use Rattle.avr_code.proofs.Standing.{Has, Alike, alike, has_kept, has_cell, has_wire, has_latch, ViewStands, wire_low, wire_free}
+use Rattle.avr_code.proofs.Standing.{Has, alike, has_kept, has_cell, has_wire, has_latch, ViewStands, wire_low, wire_free}
 use Rattle.avr_code.proofs.View.{View, changed, moved}
 
 in_byte_low : (b : ℕ) → in_byte b < 8
@@ -96,7 +96,7 @@ fetch_fits board (bit.Latch port b) reads = reads
 abbrev fetch_size : BitSource → ℕ
 fetch_size from = size_of (insn_of (Fetches from))
 
-direction_small : (outputs : List PortBit) (port : ℕ) → direction outputs port < 256
+pub direction_small : (outputs : List PortBit) (port : ℕ) → direction outputs port < 256
 direction_small [] port = lit< tt
 direction_small (p ∷ ps) port = by (direction_small ps port) (p.port == port)
   where
@@ -168,13 +168,13 @@ module _ (board : Board) (lay : Layout) (m : AvrState) (s : Bytes) where
   Ready p = IsReady (avr_target board) lay s p
 
   abbrev Goes : BytePrim → Type 0
-  Goes p = Moves (steps_over (avr_step mega16) lay.flash) (StandsAt board lay.places) m (cycle_count p) s (act lay.code p s false no_reading)
+  Goes p = Moves (steps_over (avr_step mega16) lay.flash) (StandsAt board lay.places) m (cycle_count board p) s (act lay.code p s false no_reading)
 
   abbrev Then : Store → Bytes
   Then d = record s { place = suc s.place; store = d }
 
   -- code that is chosen by what a cell is
-  coded_as : (p : BytePrim) (q : Piece) (ps : List Piece) → Ready p → ((labels : List ℕ) → code_of p labels ≡ q ∷ ps) →
+  coded_as : (p : BytePrim) (q : Piece) (ps : List Piece) → Ready p → ((labels : List ℕ) → code_of board p labels ≡ q ∷ ps) →
       (act lay.code p s false no_reading).sent ≡ [] → AllPiecesFit (q ∷ ps) → StandsAt board lay.places m s →
       ((v : View) → ViewStands board lay.places v s → slice_index lay.places (suc s.place) ≡ slice_index lay.places s.place + size_in (q ∷ ps) →
       AllGood (size_in (q ∷ ps) + more_cycles p) (Ends board lay m s p) (paths (q ∷ ps) 0 v)) → Goes p

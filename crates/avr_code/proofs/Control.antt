@@ -1,6 +1,6 @@
 -- Calls, returns and the cycle poll.
 use Rattle.std.proofs.Common.{◌≡◌, inl, ℕ, ◌+◌, ◌-◌, ◌*◌, ◌/◌, ◌%◌, ◌<◌, ◌≤◌, false, List, [], ◌∷◌, Option, Some, None, refl, sym, ap, ◌∙◌, subst, arith, lit<, lit≤}
-use Rattle.std.proofs.lemmas.Bool.{lt-ltb, ne_eqb}
+use Rattle.std.proofs.lemmas.Bool.{lt-ltb, ne_eqb, true≢false}
 use Rattle.std.specs.Prelude.{◌&&◌, nat_lt, nat_le, if◌then◌else◌, slice_index, slice_set, IsSome}
 use Rattle.chip_tables.specs.Outside.{no_reading}
 use Rattle.chip_tables.specs.declared.outside.Poll.TheVariants.{NoPoll}
@@ -24,8 +24,8 @@ use Rattle.avr_mach.specs.Memory.{with_ram}
 use Rattle.avr_mach.specs.Step.{avr_step, insn_at, at_place}
 use Rattle.avr_mach.specs.Words.{size_of}
 use Rattle.target_core.specs.Law.{Leads, here, on, LeadsFrom, Moves, IsReady, Layout}
-use Rattle.avr_code.specs.Code.{Plain, cycle_count}
-use Rattle.avr_code.specs.Stands.{Board, HasReturn, StandsAt}
+use Rattle.avr_code.specs.Code.{Board, Plain, cycle_count}
+use Rattle.avr_code.specs.Stands.{HasReturn, StandsAt}
 use Rattle.avr_code.specs.Target.{avr_target}
 use Rattle.avr_code.proofs.Effects.{sees_ram}
 use Rattle.chip_tables.specs.Bits.{bit_of}
@@ -98,7 +98,7 @@ module _ (board : Board) (lay : Layout) (m : AvrState) (s : Bytes) where
   Place = slice_index lay.places s.place
 
   abbrev Goes : BytePrim → Type 0
-  Goes p = Moves (steps_over (avr_step mega16) lay.flash) (StandsAt board lay.places) m (cycle_count p) s (act lay.code p s false no_reading)
+  Goes p = Moves (steps_over (avr_step mega16) lay.flash) (StandsAt board lay.places) m (cycle_count board p) s (act lay.code p s false no_reading)
 
   pub call : (l : ℕ) → Ready (Call l) → StandsAt board lay.places m s → Goes (Call l)
   call l ready st =
@@ -157,6 +157,7 @@ module _ (board : Board) (lay : Layout) (m : AvrState) (s : Bytes) where
                     (has.started e).quiet;
               };
               flag = tt;
+              closed = λ e. absurd (true≢false (sym ready.begins ∙ e));
               back = λ e. (refl, parts (m.place + 2) _ (let a = st.at in let b = ready.next in omega (arith, a, b)));
             };
             at = named;
@@ -207,6 +208,7 @@ module _ (board : Board) (lay : Layout) (m : AvrState) (s : Bytes) where
                     (has.started e).quiet;
               };
               flag = tt;
+              closed = λ e. refl;
               back = λ e. ap (λ n. n + 2) top.0;
             };
             at = top.1;

@@ -20,7 +20,7 @@ use Rattle.avr_mach.specs.Arithmetic.{with_sum, with_difference, difference, wit
 use Rattle.avr_mach.specs.Asks.{insn_ask, lds_ask}
 use Rattle.avr_mach.specs.Control.{branch, skip_if, obstacle, long_obstacle}
 use Rattle.avr_mach.specs.Exec.{exec}
-use Rattle.avr_mach.specs.Access.{loaded}
+use Rattle.avr_mach.specs.Access.{loaded, stored}
 use Rattle.avr_mach.specs.Memory.{lds_read, lds_register, ram_byte, with_ram, io_written}
 use Rattle.avr_mach.specs.State.{after, act, reg, with_reg, flag, with_flag}
 use Rattle.avr_mach.specs.Transfer.{stored_at}
@@ -83,7 +83,7 @@ insn_kind (insn.Rcall k) = Other
 insn_kind (insn.Call place) = Other
 insn_kind insn.Ret = Other
 insn_kind (insn.In d a) = Other
-insn_kind (insn.Out a r) = Other
+insn_kind (insn.Out a r) = Straight (λ v. record v { core = io_written v.core (register_in mega16 a) (see v r) 1 }) 1
 insn_kind (insn.Cbi a b) = Other
 insn_kind (insn.Sbi a b) = Other
 insn_kind (insn.Sbic a b) = Other
@@ -114,6 +114,14 @@ kind_of (Fetches from) = Straight (λ v. put v 18 (fetched v from)) (size_of (in
 kind_of (Gives a r) = Straight (λ v. record v { cells = changed v.cells a (see v r) }) 1
 kind_of (Latches port b x) = Straight (λ v. record v { core = latched v.core port b x }) 2
 
+-- an I/O register whose writing changes neither registers nor SRAM and sends nothing
+pub record IsQuiet (a : ℕ) : Type 0 where
+  pub regs : (m : AvrState) (x : ℕ) → (io_written m (register_in mega16 a) x 1).regs ≡ m.regs
+  pub sram : (m : AvrState) (x : ℕ) → (io_written m (register_in mega16 a) x 1).sram ≡ m.sram
+  pub bare : (m : AvrState) (x : ℕ) → bare (io_written m (register_in mega16 a) x 1) ≡ io_written (bare m) (register_in mega16 a) x 1
+  pub sends : (m : AvrState) (x : ℕ) → sent_to m.devices (register_in mega16 a) x ≡ None
+  pub asks : (m : AvrState) (r : ℕ) → insn_ask (insn.Out a r) m.devices ≡ ask.Nothing
+
 -- registers are below 32, places are in flash, and cells are there
 abbrev pub InsnFits : AvrInsn → Type 0
 InsnFits (insn.Add d r) = (d < 32) × (r < 32)
@@ -139,6 +147,7 @@ InsnFits (insn.Sbrc r b) = (r < 32) × (b < 8)
 InsnFits (insn.Sbrs r b) = (r < 32) × (b < 8)
 InsnFits (insn.Jmp place) = place < 8192
 InsnFits (insn.Rjmp k) = k < 64
+InsnFits (insn.Out a r) = (r < 32) × (a < 64) × IsQuiet a
 InsnFits i = ⊥
 
 abbrev pub FetchFits : BitSource → Type 0
@@ -381,7 +390,16 @@ module _ (env : Env) (m : AvrState) (v : View) (h : Sees m v) where
   does (insn.Call place) fit inside = absurd fit
   does insn.Ret fit inside = absurd fit
   does (insn.In d a) fit inside = absurd fit
-  does (insn.Out a r) fit inside = absurd fit
+  does (insn.Out a r) fit inside = record {
+    free = refl;
+    asks = fit.2.asks m r;
+    acts = (
+      io_written m (register_in mega16 a) (see v r) 1,
+      ap (λ x. stored m (register_in mega16 a) x 1) (h.file r fit.0)
+          ∙ ap (λ o. record { state = io_written m (register_in mega16 a) (see v r) 1; acted = act Next 1 NoPoll o }) (fit.2.sends m (see v r)),
+      sees_core m v (λ c. io_written c (register_in mega16 a) (see v r) 1) (fit.2.regs m (see v r)) (fit.2.sram m (see v r)) (fit.2.bare m (see v r)) h,
+    );
+  }
   does (insn.Cbi a b) fit inside = absurd fit
   does (insn.Sbi a b) fit inside = absurd fit
   does (insn.Sbic a b) fit inside = absurd fit

@@ -10,6 +10,8 @@ pub mod Compares
 pub mod Primitives
 pub mod Products
 pub mod Bits
+pub mod Tables
+pub mod Starts
 pub mod Control
 pub mod Polling
 pub mod Whole

@@ -24,8 +24,8 @@ use Rattle.avr_mach.specs.State.{After, reg, with_reg}
 use Rattle.avr_mach.specs.State as state
 use Rattle.avr_mach.specs.Step.{avr_step, insn_at, at_place, width_of}
 use Rattle.target_core.specs.Law.{here, LeadsFrom, IsReady, Layout}
-use Rattle.avr_code.specs.Code.{poll_code}
-use Rattle.avr_code.specs.Stands.{Board, StandsAt}
+use Rattle.avr_code.specs.Code.{Board, poll_code}
+use Rattle.avr_code.specs.Stands.{StandsAt}
 use Rattle.avr_code.specs.Target.{avr_target}
 use Rattle.avr_code.proofs.Control.{WentTo, one_step, then_step}
 use Rattle.avr_code.proofs.Primitives.{flag_kept}
@@ -175,6 +175,7 @@ module _ (board : Board) (lay : Layout) (m : AvrState) (s : Bytes) (l : ℕ) (re
             started = λ e. record { zero = (has.started e).zero; directions = (has.started e).directions; timing = (has.started e).timing; quiet = refl };
             flag = tt;
             back = has.back;
+            closed = has.closed;
           };
           at = four_behind m.place Place (slice_index lay.places (suc s.place)) st.at ready.next;
         })

@@ -35,8 +35,8 @@ use Rattle.avr_mach.specs.Step.{avr_step, at_place}
 use Rattle.avr_mach.specs.Words.{size_of}
 use Rattle.avr_devices.specs.Part.{mega16}
 use Rattle.target_core.specs.Law.{LeadsFrom, Moves, IsReady, Layout, HasAt}
-use Rattle.avr_code.specs.Code.{Piece, Plain, Loads, Stores, Fetches, Gives, Latches, insn_of, code_of, words_of, size_in, word_count, cycle_count, jump_on, status_bit}
-use Rattle.avr_code.specs.Stands.{Board, IsCell, HasFlag, StandsAt}
+use Rattle.avr_code.specs.Code.{Board, Piece, Plain, Loads, Stores, Fetches, Gives, Latches, insn_of, code_of, words_of, size_in, word_count, cycle_count, jump_on, status_bit}
+use Rattle.avr_code.specs.Stands.{IsCell, HasFlag, StandsAt}
 use Rattle.avr_code.specs.Target.{avr_target}
 use Rattle.avr_code.proofs.Compares.{equal_words, below_words, less_words}
 use Rattle.avr_code.proofs.Effects.{InsnFits, PieceFits, FetchFits, result}
@@ -76,7 +76,7 @@ insn_fields (insn.Rcall k) fit = absurd fit
 insn_fields (insn.Call place) fit = absurd fit
 insn_fields insn.Ret fit = absurd fit
 insn_fields (insn.In d a) fit = absurd fit
-insn_fields (insn.Out a r) fit = absurd fit
+insn_fields (insn.Out a r) fit = (fit.1, fit.0)
 insn_fields (insn.Cbi a b) fit = absurd fit
 insn_fields (insn.Sbi a b) fit = absurd fit
 insn_fields (insn.Sbic a b) fit = absurd fit
@@ -208,7 +208,7 @@ counted v = moved (result v (λ c. with_result c 21 ((see v 21 + 255) % 256) (se
 
 -- the place of the byte state does not count
 pub elsewhere : (board : Board) (places : List ℕ) (w : View) (s : Bytes) (q : ℕ) → Has board places w s → Has board places w (record s { place = q })
-elsewhere board places w s q h = record { holds = h.holds; settings = h.settings; started = h.started; flag = h.flag; back = h.back }
+elsewhere board places w s q h = record { holds = h.holds; settings = h.settings; started = h.started; flag = h.flag; back = h.back; closed = h.closed }
 
 six_on : (n a b c d p q : ℕ) → n ≡ p → q ≡ p + (a + (b + (c + (d + (1 + (1 + 0)))))) → n + a + b + c + d + 1 + 1 ≡ q
 six_on n a b c d p q e f = omega (arith, e, f)
@@ -239,12 +239,12 @@ module _ (board : Board) (lay : Layout) (m : AvrState) (s : Bytes) where
   Ends p w = ViewStands board lay.places w (act lay.code p s false no_reading).next
 
   abbrev pub Good : BytePrim → List Piece → Type 0
-  Good p ps = (v : View) → ViewStands board lay.places v s → AllGood (cycle_count p) (Ends p) (paths ps 0 v)
+  Good p ps = (v : View) → ViewStands board lay.places v s → AllGood (cycle_count board p) (Ends p) (paths ps 0 v)
 
   -- code all of whose paths are good
-  pub coded : (p : BytePrim) (q : Piece) (ps : List Piece) → Ready p → code_of p lay.labels ≡ q ∷ ps → size_in (q ∷ ps) ≡ word_count p →
+  pub coded : (p : BytePrim) (q : Piece) (ps : List Piece) → Ready p → code_of board p lay.labels ≡ q ∷ ps → size_in (q ∷ ps) ≡ word_count board p →
       (act lay.code p s false no_reading).sent ≡ [] → AllPiecesFit (q ∷ ps) → StandsAt board lay.places m s → Good p (q ∷ ps) →
-      Moves (steps_over (avr_step mega16) lay.flash) (StandsAt board lay.places) m (cycle_count p) s (act lay.code p s false no_reading)
+      Moves (steps_over (avr_step mega16) lay.flash) (StandsAt board lay.places) m (cycle_count board p) s (act lay.code p s false no_reading)
   coded p q ps ready is size quiet fit st good =
       let v = view_of m in
       let seen = view_seen m st.shows.regs st.shows.sram in
@@ -254,16 +254,16 @@ module _ (board : Board) (lay : Layout) (m : AvrState) (s : Bytes) where
       let loaded : HasAt lay.flash place (words_of (q ∷ ps)) = subst (λ l. HasAt lay.flash place (words_of l)) is ready.loaded in
       let code = code_held (q ∷ ps) lay.flash place (all_fields (q ∷ ps) fit) inside loaded in
       let T : AvrState → Type 0 = λ m'. StandsAt board lay.places m' (act lay.code p s false no_reading).next in
-      let went = good_paths lay.flash T q ps m v (cycle_count p) (Ends p) fit (subst (λ n. HasCode lay.flash n (q ∷ ps)) (sym has.at) code) seen
+      let went = good_paths lay.flash T q ps m v (cycle_count board p) (Ends p) fit (subst (λ n. HasCode lay.flash n (q ∷ ps)) (sym has.at) code) seen
       (λ m' w sees ends. from_view board lay.places m' w (act lay.code p s false no_reading).next sees ends) (good v has) in
       inl (
         went.0,
-        subst (λ l. LeadsFrom (steps_over (avr_step mega16) lay.flash) T (steps_over (avr_step mega16) lay.flash m false no_reading) (cycle_count p) l)
+        subst (λ l. LeadsFrom (steps_over (avr_step mega16) lay.flash) T (steps_over (avr_step mega16) lay.flash m false no_reading) (cycle_count board p) l)
             (sym quiet) went.1,
       )
 
   abbrev pub Goes : BytePrim → Type 0
-  Goes p = Moves (steps_over (avr_step mega16) lay.flash) (StandsAt board lay.places) m (cycle_count p) s (act lay.code p s false no_reading)
+  Goes p = Moves (steps_over (avr_step mega16) lay.flash) (StandsAt board lay.places) m (cycle_count board p) s (act lay.code p s false no_reading)
 
   pub put_byte : (to x : ℕ) → Ready (Byte (bytes.Put to x)) → StandsAt board lay.places m s → Goes (Byte (bytes.Put to x))
   put_byte to x ready st = coded (Byte (bytes.Put to x)) (Plain (insn.Ldi 16 x)) (Stores to 16 ∷ []) ready refl refl refl
@@ -649,6 +649,7 @@ module _ (board : Board) (lay : Layout) (m : AvrState) (s : Bytes) where
       started = st.started;
       flag = tt;
       back = st.back;
+      closed = st.closed;
     },
   )
 

@@ -1,10 +1,9 @@
 -- Negations, and the steps of products and quotients.
-use Rattle.std.proofs.Common.{◌⊎◌, inr, ◌≡◌, ◌≢◌, ⊎_elim, eq-eqb, ℕ, suc, ◌+◌, ◌-◌, ◌*◌, ◌/◌, ◌%◌, ◌<◌, ◌≤◌, inl, Bool, true, false, List, [], ◌∷◌, None, refl, sym, ap, ap₂, ◌∙◌, subst, arith, lit<, lit≤}
-use Rattle.std.proofs.lemmas.Bool.{cases_eq, ne_eqb, true≢false, lt-ltb, le-ltb, le-leb, lt-leb, leb-true, ltb-true, ltb-false}
+use Rattle.std.proofs.Common.{◌⊎◌, inr, ◌≡◌, ◌≢◌, ⊎_elim, eq-eqb, ℕ, suc, ◌+◌, ◌-◌, ◌*◌, ◌/◌, ◌%◌, ◌<◌, ◌≤◌, inl, Bool, true, false, List, [], ◌∷◌, None, refl, sym, ap, ◌∙◌, subst, arith, lit<, lit≤}
+use Rattle.std.proofs.lemmas.Bool.{cases_eq, ne_eqb, le-leb, lt-leb, leb-true, ltb-true, ltb-false}
 use Rattle.std.specs.Prelude.{◌==◌, not, nat_le, nat_lt, if◌then◌else◌, slice_index}
 use Rattle.chip_tables.specs.Bits.{bit_of, as_bit}
 use Rattle.chip_tables.specs.Outside.{no_reading}
-use Rattle.chip_tables.specs.Scratch.{avr_scratch}
 use Rattle.chip_tables.specs.declared.scratch.Scratch.{Scratch}
 use Rattle.runs.specs.Chip.{steps_over}
 use Rattle.byte_code.specs.declared.prim.BytePrim.{BytePrim}
@@ -22,10 +21,9 @@ use Rattle.avr_mach.specs.Step.{avr_step}
 use Rattle.avr_mach.specs.Words.{size_of}
 use Rattle.avr_devices.specs.Part.{mega16}
 use Rattle.target_core.specs.Law.{Moves, IsReady, Layout}
-use Rattle.avr_code.specs.Code.{Piece, Plain, Loads, Stores, cycle_count, multiply_code, divide_code, negate_code}
-use Rattle.avr_code.specs.Stands.{Board, IsCell, StandsAt}
+use Rattle.avr_code.specs.Code.{Board, Plain, Loads, Stores, cycle_count}
+use Rattle.avr_code.specs.Stands.{IsCell, StandsAt}
 use Rattle.avr_code.specs.Target.{avr_target}
-use Rattle.avr_code.proofs.Paths.{AllGood, paths}
 use Rattle.avr_code.proofs.Primitives.{coded, is_false, is_true, elsewhere, load_size, store_size}
 use Rattle.avr_code.proofs.Standing.{Has, Alike, alike, alike_cells, has_kept, has_word, has_word_by, ViewStands}
 use Rattle.avr_code.proofs.Sums.{carry_is, borrow_is}
@@ -45,7 +43,7 @@ pub written_back : (f : ℕ → ℕ) (a b : ℕ) → changed f a (f a) b ≡ f b
 written_back f a b = ⊎_elim (λ (same : b ≡ a). ap (λ t. if t then f a else f b) (eq-eqb b a same) ∙ ap f (sym same))
     (λ (other : b ≢ a). ap (λ t. if t then f a else f b) (ne_eqb b a other)) (cases_eq b a)
 
-word_back : (f : ℕ → ℕ) (a b : ℕ) → changed (changed f a (f a)) (a + 1) (f (a + 1)) b ≡ f b
+pub word_back : (f : ℕ → ℕ) (a b : ℕ) → changed (changed f a (f a)) (a + 1) (f (a + 1)) b ≡ f b
 word_back f a b = ap (λ y. if b == (a + 1) then f (a + 1) else y) (written_back f a b) ∙ written_back f (a + 1) b
 
 -- the opposite of a word, where R1 is z
@@ -116,25 +114,25 @@ lessened f =
 abbrev Spares : (ℕ → ℕ) → (ℕ → ℕ) → Type 0
 Spares f g = (n : ℕ) → (n == 22) ≡ false → (n == 23) ≡ false → (n == 24) ≡ false → (n == 25) ≡ false → (n == 30) ≡ false → (n == 31) ≡ false → g n ≡ f n
 
-a_low : IsCell 24
+pub a_low : IsCell 24
 a_low = inl (lit< tt, refl, refl)
 
-a_high : IsCell 25
+pub a_high : IsCell 25
 a_high = inl (lit< tt, refl, refl)
 
-b_low : IsCell 22
+pub b_low : IsCell 22
 b_low = inl (lit< tt, refl, refl)
 
-b_high : IsCell 23
+pub b_high : IsCell 23
 b_high = inl (lit< tt, refl, refl)
 
-r_low : IsCell 30
+pub r_low : IsCell 30
 r_low = inl (lit< tt, refl, refl)
 
-r_high : IsCell 31
+pub r_high : IsCell 31
 r_high = inl (lit< tt, refl, refl)
 
-abbrev taking : (ℕ → ℕ) → ℕ → ℕ → ℕ → ℕ
+abbrev pub taking : (ℕ → ℕ) → ℕ → ℕ → ℕ → ℕ
 taking f a n = changed (changed f a (n % 256)) (a + 1) (n / 256 % 256)
 
 -- R and A take words
@@ -317,7 +315,7 @@ module _ (board : Board) (lay : Layout) (m : AvrState) (s : Bytes) where
   Ready p = IsReady (avr_target board) lay s p
 
   abbrev Goes : BytePrim → Type 0
-  Goes p = Moves (steps_over (avr_step mega16) lay.flash) (StandsAt board lay.places) m (cycle_count p) s (act lay.code p s false no_reading)
+  Goes p = Moves (steps_over (avr_step mega16) lay.flash) (StandsAt board lay.places) m (cycle_count board p) s (act lay.code p s false no_reading)
 
   one_or_two : (a r : ℕ) → 1 ≤ store_size a r
   one_or_two a r = by (nat_lt a 32)
@@ -380,6 +378,7 @@ module _ (board : Board) (lay : Layout) (m : AvrState) (s : Bytes) where
               };
               flag = tt;
               back = z.back;
+              closed = z.closed;
             };
             at = negated_on v.core.place (load_size 18 sign) (load_size 16 to) (load_size 17 (to + 1)) (store_size to 16)
                 (store_size (to + 1) 17) _ _ h.at ready.next;
@@ -414,6 +413,7 @@ module _ (board : Board) (lay : Layout) (m : AvrState) (s : Bytes) where
                 };
                 flag = tt;
                 back = z.back;
+                closed = z.closed;
               };
               at = left_on v.core.place (load_size 18 sign) (load_size 16 to) (load_size 17 (to + 1)) (store_size to 16)
                   (store_size (to + 1) 17) _ _ h.at ready.next;
@@ -592,6 +592,7 @@ module _ (board : Board) (lay : Layout) (m : AvrState) (s : Bytes) where
                     };
                     flag = tt;
                     back = z.back;
+                    closed = z.closed;
                   };
                   at = short_on v.core.place _ _ h.at ready.next;
                 },
@@ -623,6 +624,7 @@ module _ (board : Board) (lay : Layout) (m : AvrState) (s : Bytes) where
                   };
                   flag = tt;
                   back = z.back;
+                  closed = z.closed;
                 };
                 at = short_on v.core.place _ _ h.at ready.next;
               },
@@ -658,6 +660,7 @@ module _ (board : Board) (lay : Layout) (m : AvrState) (s : Bytes) where
                   };
                   flag = tt;
                   back = z.back;
+                  closed = z.closed;
                 };
                 at = long_on v.core.place _ _ h.at ready.next;
               },
@@ -689,6 +692,7 @@ module _ (board : Board) (lay : Layout) (m : AvrState) (s : Bytes) where
                 };
                 flag = tt;
                 back = z.back;
+                closed = z.closed;
               };
               at = long_on v.core.place _ _ h.at ready.next;
             },
@@ -810,6 +814,7 @@ module _ (board : Board) (lay : Layout) (m : AvrState) (s : Bytes) where
                 };
                 flag = tt;
                 back = z.back;
+                closed = z.closed;
               };
               at = over_three v.core.place _ _ h.at ready.next;
             },
@@ -842,6 +847,7 @@ module _ (board : Board) (lay : Layout) (m : AvrState) (s : Bytes) where
               };
               flag = tt;
               back = z.back;
+              closed = z.closed;
             };
             at = ten_on v.core.place _ _ h.at ready.next;
           },

@@ -9,7 +9,8 @@ use Rattle.byte_code.specs.State.{fresh}
 use Rattle.avr_devices.specs.Device.{port_of}
 use Rattle.avr_devices.specs.Reset.{reset_devices}
 use Rattle.avr_mach.specs.Reset.{reset_state}
-use Rattle.avr_code.specs.Stands.{Board, HasCells, StandsAt}
+use Rattle.avr_code.specs.Stands.{HasCells, StandsAt}
+use Rattle.avr_code.specs.Code.{Board}
 use Rattle.avr_code.proofs.Standing.{wire_low}
 use Rattle.chip_tables.specs.Bits.{bit_of}
 
@@ -48,4 +49,5 @@ reset_stands sram regs eeprom cells board places all_regs all_ram h first = reco
   started = λ e. absurd (false≢true e);
   flag = tt;
   back = λ e. absurd (false≢true e);
+  closed = λ e. refl;
 }

@@ -14,10 +14,10 @@ use Rattle.avr_devices.specs.Device.{is_timing, port_of}
 use Rattle.avr_mach.specs.declared.state.AvrState.{AvrState}
 use Rattle.avr_mach.specs.Memory.{ram_byte}
 use Rattle.avr_mach.specs.State.{reg, flag}
-use Rattle.avr_code.specs.Code.{status_bit, is_wire}
+use Rattle.avr_code.specs.Code.{status_bit, is_wire, Board, direction}
 use Rattle.avr_code.proofs.BitFacts.{with_bit_low, with_bit_small}
 use Rattle.avr_code.proofs.Effects.{latched, past_ports}
-use Rattle.avr_code.specs.Stands.{is_work, IsCell, Board, direction, HasFlag, HasReturn, Shows, StandsAt}
+use Rattle.avr_code.specs.Stands.{is_work, IsCell, HasFlag, HasReturn, Shows, StandsAt}
 use Rattle.avr_code.proofs.View.{View, changed, bare, Sees, set_index}
 
 pub record Holds (v : View) (d : Store) : Type 0 where
@@ -52,6 +52,7 @@ pub record Has (board : Board) (places : List ℕ) (v : View) (s : Bytes) : Type
   pub started : s.started ≡ true → Started board v
   pub flag : HasFlag v.core s.store.flag
   pub back : s.started ≡ true → Back places v s.open_call
+  pub closed : s.started ≡ false → s.open_call ≡ None
 
 pub record ViewStands (board : Board) (places : List ℕ) (v : View) (s : Bytes) : Type 0 where
   pub has : Has board places v s
@@ -163,6 +164,7 @@ module _ (board : Board) (places : List ℕ) (m : AvrState) (v : View) (s : Byte
       };
       flag = flag_of s.store.flag st.flag;
       back = λ e. return_of s.open_call (st.back e);
+      closed = st.closed;
     };
     at = sym (of_core (λ c. c.place)) ∙ st.at;
   }
@@ -197,6 +199,7 @@ module _ (board : Board) (places : List ℕ) (m : AvrState) (v : View) (s : Byte
     };
     flag = flag_back s.store.flag st.has.flag;
     back = λ e. return_back s.open_call (st.has.back e);
+    closed = st.has.closed;
   }
 
 cell_after : (xs : List ℕ) (f : ℕ → ℕ) (a x y : ℕ) → length xs ≡ 1120 → a < 1120 → x ≡ y → (b : ℕ) → f b ≡ slice_index xs b →
@@ -317,6 +320,7 @@ module _ (board : Board) (places : List ℕ) (v w : View) (s : Bytes) (k : Alike
     settings = k.settings ∙ st.settings;
     started = started_on;
     flag = f;
+    closed = st.closed;
     back = λ e. back_kept places v w s.open_call k.stack (same 1118) (same 1119) (st.back e);
   }
 
@@ -350,6 +354,7 @@ module _ (board : Board) (places : List ℕ) (v w : View) (s : Bytes) (k : Alike
         settings = k.settings ∙ st.settings;
         started = started_on;
         flag = tt;
+        closed = st.closed;
         back = λ e. back_kept places v w s.open_call k.stack (ap (λ g. g 1118) same ∙ other_cell v.cells a x 1118 in' (lit≤ tt))
             (ap (λ g. g 1119) same ∙ other_cell v.cells a x 1119 in' (lit≤ tt)) (st.back e);
       }
@@ -383,6 +388,7 @@ module _ (board : Board) (places : List ℕ) (v w : View) (s : Bytes) (k : Alike
         settings = k.settings ∙ st.settings;
         started = started_on;
         flag = tt;
+        closed = st.closed;
         back = λ e. back_kept places v w s.open_call k.stack
             (same 1118 ∙ other_cell (changed v.cells a x) (a + 1) y 1118 in2 (lit≤ tt) ∙ other_cell v.cells a x 1118 in1 (lit≤ tt))
             (same 1119 ∙ other_cell (changed v.cells a x) (a + 1) y 1119 in2 (lit≤ tt) ∙ other_cell v.cells a x 1119 in1 (lit≤ tt)) (st.back e);
@@ -420,6 +426,7 @@ module _ (board : Board) (places : List ℕ) (v w : View) (s : Bytes) (k : Alike
         settings = k.settings ∙ st.settings;
         started = started_on;
         flag = f;
+        closed = st.closed;
         back = λ q. back_kept places v w s.open_call k.stack (same 1118 ∙ far 1118 near (lit≤ tt)) (same 1119 ∙ far 1119 near (lit≤ tt)) (st.back q);
       }
     where
@@ -499,5 +506,6 @@ has_latch board places v u w s port b x low st j k same =
         quiet = k.quiet ∙ t.quiet ∙ j.quiet ∙ (st.started e).quiet;
       };
       flag = tt;
+      closed = st.closed;
       back = λ e. back_kept places v w s.open_call (k.stack ∙ j.stack) (ap (λ g. g 1118) same) (ap (λ g. g 1119) same) (st.back e);
     }

@@ -25,14 +25,16 @@ use Rattle.avr_mach.specs.Words.{size_of}
 use Rattle.avr_devices.specs.Part.{mega16}
 use Rattle.chip_tables.specs.declared.outside.PinReading.{PinReading}
 use Rattle.target_core.specs.Law.{MachineLaw, IsReady, Layout, LeadsFrom, here, has_words}
-use Rattle.avr_code.specs.Code.{Piece, insn_of, words_by, words_of, size_in, is_wire, by_cell, bit_code, code_of, word_count, cycle_count}
-use Rattle.avr_code.specs.Stands.{Board, StandsAt}
+use Rattle.avr_code.specs.Code.{Board, Piece, insn_of, words_by, words_of, size_in, is_wire, by_cell, bit_code, code_of, word_count, cycle_count}
+use Rattle.avr_code.specs.Stands.{StandsAt}
 use Rattle.avr_code.specs.Target.{Admits, AdmitsBit, AdmitsWord, leave_count, avr_target}
 use Rattle.avr_code.proofs.Bits as bits
 use Rattle.avr_code.proofs.Control as control
 use Rattle.avr_code.proofs.Polling as polling
 use Rattle.avr_code.proofs.Primitives as law
 use Rattle.avr_code.proofs.Products as products
+use Rattle.avr_code.proofs.Starts as starts
+use Rattle.avr_code.proofs.Tables as tables
 use Rattle.avr_code.proofs.Walk.{sizes}
 
 word_length : (i : AvrInsn) → (size_of i ≡ 1) ⊎ (size_of i ≡ 2) → length (words_by (size_of i) i) ≡ size_of i
@@ -47,7 +49,7 @@ code_length (p ∷ ps) =
     ∙ ap (λ n. size_of (insn_of p) + n) (code_length ps)
 
 -- no primitive's words depend on the places of the labels
-same_size : (board : Board) (p : BytePrim) (labels : List ℕ) → Admits board p → size_in (code_of p labels) ≡ word_count p
+same_size : (board : Board) (p : BytePrim) (labels : List ℕ) → Admits board p → size_in (code_of board p labels) ≡ word_count board p
 same_size board (Label l) labels h = refl
 same_size board (Jump l) labels h = refl
 same_size board (JumpWhere test.LoopsOn l) labels h = refl
@@ -64,12 +66,12 @@ same_size board (Call l) labels h = refl
 same_size board Return labels h = refl
 same_size board (CyclePoll l) labels h = refl
 same_size board (Compare op) labels h = refl
-same_size board (Start n) labels h = absurd h
+same_size board (Start n) labels h = refl
 same_size board (AdcPoll l) labels h = absurd h
 same_size board (Bit op) labels h = refl
 same_size board (Device op) labels h = absurd h
 same_size board (Eeprom op) labels h = absurd h
-same_size board (Table values l) labels h = absurd h
+same_size board (Table values l) labels h = refl
 
 abbrev IsFull : List Piece → Type 0
 IsFull [] = ⊥
@@ -83,17 +85,17 @@ some_words (p ∷ ps) full = by (size_of (insn_of p)) (size_in ps) (sizes (insn_
     by n k (inl e) = omega (arith, e)
     by n k (inr e) = omega (arith, e)
 
-word_words : (op : WordOp) → AdmitsWord op → 0 < word_count (Word op)
-word_words (words.Move to (source.Cells a)) h = some_words (code_of (Word (words.Move to (source.Cells a))) []) tt
-word_words (words.Move to (source.Number low high)) h = some_words (code_of (Word (words.Move to (source.Number low high))) []) tt
-word_words (words.Increment to) h = some_words (code_of (Word (words.Increment to)) []) tt
-word_words (words.Decrement to) h = some_words (code_of (Word (words.Decrement to)) []) tt
-word_words (words.Add to a b) h = some_words (code_of (Word (words.Add to a b)) []) tt
-word_words (words.Subtract to (source.Cells a) b) h = some_words (code_of (Word (words.Subtract to (source.Cells a) b)) []) tt
-word_words (words.Subtract to (source.Number low high) b) h = some_words (code_of (Word (words.Subtract to (source.Number low high) b)) []) tt
-word_words (words.NegateIf to sign) h = some_words (code_of (Word (words.NegateIf to sign)) []) tt
-word_words words.MultiplyStep h = lit< tt
-word_words words.DivideStep h = lit< tt
+word_words : (board : Board) (op : WordOp) → AdmitsWord op → 0 < word_count board (Word op)
+word_words board (words.Move to (source.Cells a)) h = some_words (code_of board (Word (words.Move to (source.Cells a))) []) tt
+word_words board (words.Move to (source.Number low high)) h = some_words (code_of board (Word (words.Move to (source.Number low high))) []) tt
+word_words board (words.Increment to) h = some_words (code_of board (Word (words.Increment to)) []) tt
+word_words board (words.Decrement to) h = some_words (code_of board (Word (words.Decrement to)) []) tt
+word_words board (words.Add to a b) h = some_words (code_of board (Word (words.Add to a b)) []) tt
+word_words board (words.Subtract to (source.Cells a) b) h = some_words (code_of board (Word (words.Subtract to (source.Cells a) b)) []) tt
+word_words board (words.Subtract to (source.Number low high) b) h = some_words (code_of board (Word (words.Subtract to (source.Number low high) b)) []) tt
+word_words board (words.NegateIf to sign) h = some_words (code_of board (Word (words.NegateIf to sign)) []) tt
+word_words board words.MultiplyStep h = lit< tt
+word_words board words.DivideStep h = lit< tt
 
 by_full : (a : ℕ) (power wire byte : List Piece) → IsFull power → IsFull wire → IsFull byte → IsFull (by_cell a power wire byte)
 by_full a power wire byte p w b = by (a == 20) (is_wire a)
@@ -120,50 +122,54 @@ bit_full board (ops.PutIf from is (dest.Latch port b) x) h = tt
 bit_full board (ops.PutOnFlag k is (dest.Cell a b) x) h = wire_full a _ _ _ tt tt h.0
 bit_full board (ops.PutOnFlag k is (dest.Latch port b) x) h = absurd h
 
-worded : (board : Board) (p : BytePrim) → Admits board p → has_words p ≡ true → 0 < word_count p
+worded : (board : Board) (p : BytePrim) → Admits board p → has_words p ≡ true → 0 < word_count board p
 worded board (Label l) h e = absurd (cc e)
 worded board (Jump l) h e = lit< tt
 worded board (JumpWhere test.LoopsOn l) h e = lit< tt
 worded board (JumpWhere (test.Flag k true) l) h e = lit< tt
 worded board (JumpWhere (test.Flag k false) l) h e = lit< tt
-worded board (JumpWhere (test.Bit from is) l) h e = some_words (code_of (JumpWhere (test.Bit from is) l) []) tt
+worded board (JumpWhere (test.Bit from is) l) h e = some_words (code_of board (JumpWhere (test.Bit from is) l) []) tt
 worded board (JumpWhere test.NoByte l) h e = absurd h
 worded board (JumpWhere test.Sends l) h e = absurd h
 worded board (JumpWhere test.Writes l) h e = absurd h
 worded board (JumpWhere test.NoneWaits l) h e = absurd h
-worded board (Byte (bytes.Put to x)) h e = some_words (code_of (Byte (bytes.Put to x)) []) tt
-worded board (Byte (bytes.Copy to from)) h e = some_words (code_of (Byte (bytes.Copy to from)) []) tt
-worded board (Byte (bytes.Xor to a b)) h e = some_words (code_of (Byte (bytes.Xor to a b)) []) tt
-worded board (Word op) h e = word_words op h
+worded board (Byte (bytes.Put to x)) h e = some_words (code_of board (Byte (bytes.Put to x)) []) tt
+worded board (Byte (bytes.Copy to from)) h e = some_words (code_of board (Byte (bytes.Copy to from)) []) tt
+worded board (Byte (bytes.Xor to a b)) h e = some_words (code_of board (Byte (bytes.Xor to a b)) []) tt
+worded board (Word op) h e = word_words board op h
 worded board (Call l) h e = lit< tt
 worded board Return h e = lit< tt
 worded board (CyclePoll l) h e = lit< tt
-worded board (Compare (compares.Less a b)) h e = some_words (code_of (Compare (compares.Less a b)) []) tt
-worded board (Compare (compares.Equal a b)) h e = some_words (code_of (Compare (compares.Equal a b)) []) tt
-worded board (Compare (compares.Below a n)) h e = some_words (code_of (Compare (compares.Below a n)) []) tt
-worded board (Start n) h e = absurd h
+worded board (Compare (compares.Less a b)) h e = some_words (code_of board (Compare (compares.Less a b)) []) tt
+worded board (Compare (compares.Equal a b)) h e = some_words (code_of board (Compare (compares.Equal a b)) []) tt
+worded board (Compare (compares.Below a n)) h e = some_words (code_of board (Compare (compares.Below a n)) []) tt
+worded board (Start n) h e = some_words (code_of board (Start n) []) tt
 worded board (AdcPoll l) h e = absurd h
 worded board (Bit op) h e = some_words (bit_code op) (bit_full board op h)
 worded board (Device op) h e = absurd h
 worded board (Eeprom op) h e = absurd h
-worded board (Table values l) h e = absurd h
+worded board (Table [] l) h e = h.0
+worded board (Table (x ∷ xs) l) h e = some_words (code_of board (Table (x ∷ xs) l) []) tt
 
-inside : (p : BytePrim) → asked_by p ≢ ask.Nothing → 0 + leave_count p ≤ cycle_count p
-inside (CyclePoll l) ne = lit≤ tt
-inside (AdcPoll l) ne = lit≤ tt
-inside (Start n) ne = absurd (ne refl)
-inside (Label l) ne = absurd (ne refl)
-inside (Jump l) ne = absurd (ne refl)
-inside (Call l) ne = absurd (ne refl)
-inside Return ne = absurd (ne refl)
-inside (JumpWhere by l) ne = absurd (ne refl)
-inside (Bit op) ne = absurd (ne refl)
-inside (Byte op) ne = absurd (ne refl)
-inside (Word op) ne = absurd (ne refl)
-inside (Compare op) ne = absurd (ne refl)
-inside (Device op) ne = absurd (ne refl)
-inside (Eeprom op) ne = absurd (ne refl)
-inside (Table values l) ne = absurd (ne refl)
+none : 0 < 0 → ⊥
+none low = omega (arith, low)
+
+inside : (board : Board) (p : BytePrim) → asked_by p ≢ ask.Nothing → 0 + leave_count p ≤ cycle_count board p
+inside board (CyclePoll l) ne = lit≤ tt
+inside board (AdcPoll l) ne = lit≤ tt
+inside board (Start n) ne = absurd (ne refl)
+inside board (Label l) ne = absurd (ne refl)
+inside board (Jump l) ne = absurd (ne refl)
+inside board (Call l) ne = absurd (ne refl)
+inside board Return ne = absurd (ne refl)
+inside board (JumpWhere by l) ne = absurd (ne refl)
+inside board (Bit op) ne = absurd (ne refl)
+inside board (Byte op) ne = absurd (ne refl)
+inside board (Word op) ne = absurd (ne refl)
+inside board (Compare op) ne = absurd (ne refl)
+inside board (Device op) ne = absurd (ne refl)
+inside board (Eeprom op) ne = absurd (ne refl)
+inside board (Table values l) ne = absurd (ne refl)
 
 -- of those that are admitted, the cycle poll alone asks
 poll_of : (board : Board) (p : BytePrim) → Admits board p → asked_by p ≢ ask.Nothing → (l : ℕ) × (CyclePoll l ≡ p)
@@ -227,12 +233,13 @@ module _ (board : Board) (lay : Layout) (m : AvrState) (s : Bytes) (st : StandsA
   plainly (Compare (compares.Equal a (source.Cells b))) ready q low = law.equal_cells board lay m s a b ready st
   plainly (Compare (compares.Equal a (source.Number low high))) ready q inside = law.equal_number board lay m s a low high ready st
   plainly (Compare (compares.Below a n)) ready q low = law.below board lay m s a n ready st
-  plainly (Start n) ready q low = absurd ready.admitted
+  plainly (Start n) ready q low = starts.start board lay m s n ready st
   plainly (AdcPoll l) ready q low = absurd ready.admitted
   plainly (Bit op) ready q low = bits.bit_goes board lay m s st low op ready
   plainly (Device op) ready q low = absurd ready.admitted
   plainly (Eeprom op) ready q low = absurd ready.admitted
-  plainly (Table values l) ready q low = absurd ready.admitted
+  plainly (Table [] l) ready q low = absurd (none ready.admitted.0)
+  plainly (Table (x ∷ xs) l) ready q low = tables.table board lay m s x xs l ready low st
 
   asks : (p : BytePrim) → Ready p → asked_by p ≢ ask.Nothing → ask_of (steps_over (avr_step mega16) lay.flash) m ≡ asked_by p
   asks p ready ne =
@@ -260,8 +267,8 @@ avr_law board = record {
   asks = λ lay m s p ready ne st. asks board lay m s st p ready ne;
   waits = λ lay m s p ready ne st. waits board lay m s st p ready ne;
   leaves = λ lay m s p r legal ready ne low st. leaves board lay m s st p r ready ne;
-  sized = λ p place labels h. code_length (code_of p labels) ∙ same_size board p labels h;
+  sized = λ p place labels h. code_length (code_of board p labels) ∙ same_size board p labels h;
   worded = worded board;
-  within = inside;
+  within = inside board;
   shown = λ places p m s st. record { shows = st.shows; started = st.started };
 }

@@ -1,9 +1,11 @@
 -- The ATmega16's instructions for each primitive.
 --
--- R1 holds 0; R16 to R19 hold nothing between two primitives. A word is computed in R16 and R17, its low byte first, with the other operand in R18 and
+-- R1 holds 0 once the start was done; R16 to R19 hold nothing between two primitives. A word is computed in R16 and R17, its low byte first, with the other operand in R18 and
 -- R19. The cells below 20h are registers, and the others are in the SRAM.
-use Rattle.std.specs.Prelude.{ℕ, ◌+◌, ◌-◌, ◌^◌, ◌==◌, ◌&&◌, ◌||◌, not, nat_le, nat_lt, Bool, true, false, if◌then◌else◌, List, [], ◌∷◌, ◌++◌, slice_index}
+use Rattle.std.specs.Prelude.{ℕ, zero, suc, ◌+◌, ◌-◌, ◌/◌, ◌%◌, ◌^◌, ◌==◌, ◌&&◌, ◌||◌, not, nat_le, nat_lt, Bool, true, false, if◌then◌else◌, List, [], ◌∷◌, ◌++◌, slice_index}
 use Rattle.chip_tables.specs.Bits.{as_bit}
+use Rattle.chip_tables.specs.declared.pins.PortBit.{PortBit}
+use Rattle.chip_tables.specs.declared.settings.Settings.{Settings}
 use Rattle.byte_code.specs.declared.prim.BytePrim.{BytePrim}
 use Rattle.byte_code.specs.declared.prim.BytePrim.TheVariants.{Start, CyclePoll, AdcPoll, Label, Jump, Call, Return, JumpWhere, Bit, Byte, Word, Compare, Device, Eeprom, Table}
 use Rattle.byte_code.specs.declared.prim.Test.{Test}
@@ -24,12 +26,22 @@ use Rattle.byte_code.specs.declared.prim.CompareOp.{CompareOp}
 use Rattle.byte_code.specs.declared.prim.CompareOp.TheVariants as compares
 use Rattle.byte_code.specs.declared.prim.FlagKind.{FlagKind}
 use Rattle.byte_code.specs.declared.prim.FlagKind.TheVariants as kind
-use Rattle.byte_code.specs.Store.{in_byte}
-use Rattle.chip_tables.specs.declared.mega16.TheConstants.{IO_FIRST}
+use Rattle.byte_code.specs.Store.{in_byte, with_bit}
+use Rattle.chip_tables.specs.declared.mega16.TheConstants.{IO_FIRST, SRAM_FIRST}
 use Rattle.avr_devices.specs.IoSpace.{latch_address, level_address}
 use Rattle.avr_mach.specs.declared.insn.AvrInsn.{AvrInsn}
 use Rattle.avr_mach.specs.declared.insn.AvrInsn.TheVariants as insn
 use Rattle.avr_mach.specs.Words.{first_word, second_word, size_of}
+
+-- what a project sets the chip to: the pins of its outputs, and the settings of its devices
+pub record Board : Type 0 where
+  pub outputs : List PortBit
+  pub settings : Settings
+
+-- DDRx for these outputs: a bit for each pin that is one
+abbrev pub direction : List PortBit → ℕ → ℕ
+direction [] port = 0
+direction (p ∷ ps) port = if p.port == port then with_bit (direction ps port) (in_byte p.bit) true else direction ps port
 
 -- An instruction; or one by which a register takes a cell, or a cell a register; by which R18 takes the byte of a bit; by which a cell that is a register
 -- takes another register; by which a bit of a latch becomes so.
@@ -199,22 +211,49 @@ compare_code (compares.Below a n) =
 abbrev pub poll_code : List Piece
 poll_code = Plain (insn.In 16 0x38) ∷ Plain (insn.Sbrs 16 4) ∷ Plain (insn.Rjmp 4093) ∷ Plain (insn.Out 0x38 16) ∷ []
 
-abbrev pub code_of : BytePrim → List ℕ → List Piece
-code_of (CyclePoll l) labels = poll_code
-code_of (Label l) labels = []
-code_of (Jump l) labels = Plain (insn.Jmp (slice_index labels l)) ∷ []
-code_of (Call l) labels = Plain (insn.Call (slice_index labels l)) ∷ []
-code_of Return labels = Plain insn.Ret ∷ []
-code_of (JumpWhere by l) labels = test_code by (slice_index labels l)
-code_of (Byte op) labels = byte_code op
-code_of (Word op) labels = word_code op
-code_of (Compare op) labels = compare_code op
-code_of (Start n) labels = []
-code_of (AdcPoll l) labels = []
-code_of (Bit op) labels = bit_code op
-code_of (Device op) labels = []
-code_of (Eeprom op) labels = []
-code_of (Table values l) labels = []
+-- A becomes the value whose index is the low byte of R: each index is compared
+abbrev pub table_code : ℕ → List ℕ → List Piece
+table_code i [] = []
+table_code i (x ∷ xs) =
+    Plain (insn.Cpi 30 i) ∷ Plain (insn.Brbc 1 2) ∷ Plain (insn.Ldi 24 (x % 256)) ∷ Plain (insn.Ldi 25 (x / 256 % 256)) ∷ table_code (i + 1) xs
+
+-- so many bytes of the SRAM become 0, from one on, and then comes the rest
+abbrev pub clear_code : ℕ → ℕ → List Piece → List Piece
+clear_code zero i rest = rest
+clear_code (suc k) i rest = Stores (SRAM_FIRST + i) 1 ∷ clear_code k (i + 1) rest
+
+-- an I/O register takes a number
+abbrev pub set_code : ℕ → ℕ → List Piece → List Piece
+set_code a x rest = Plain (insn.Ldi 16 x) ∷ Plain (insn.Out a 16) ∷ rest
+
+-- the stack pointer at the end of the SRAM, the outputs, the cycle timer without its flag, and no byte that waits for the EEPROM
+abbrev pub setup_code : Board → List Piece
+setup_code board =
+    set_code 0x3e 4 (set_code 0x3d 0x5f
+    (set_code 0x1a (direction board.outputs 0) (set_code 0x17 (direction board.outputs 1)
+    (set_code 0x14 (direction board.outputs 2) (set_code 0x11 (direction board.outputs 3)
+    (Plain (insn.Out 0x2f 1) ∷ set_code 0x2b (board.settings.timer.compare / 256) (set_code 0x2a (board.settings.timer.compare % 256)
+    (set_code 0x2e board.settings.timer.control (set_code 0x38 16 (Plain (insn.Mov 15 1) ∷ []))))))))))
+
+abbrev pub start_code : Board → ℕ → List Piece
+start_code board n = Plain (insn.Ldi 16 0) ∷ Plain (insn.Mov 1 16) ∷ clear_code n 0 (setup_code board)
+
+abbrev pub code_of : Board → BytePrim → List ℕ → List Piece
+code_of board (CyclePoll l) labels = poll_code
+code_of board (Label l) labels = []
+code_of board (Jump l) labels = Plain (insn.Jmp (slice_index labels l)) ∷ []
+code_of board (Call l) labels = Plain (insn.Call (slice_index labels l)) ∷ []
+code_of board Return labels = Plain insn.Ret ∷ []
+code_of board (JumpWhere by l) labels = test_code by (slice_index labels l)
+code_of board (Byte op) labels = byte_code op
+code_of board (Word op) labels = word_code op
+code_of board (Compare op) labels = compare_code op
+code_of board (Start n) labels = start_code board n
+code_of board (AdcPoll l) labels = []
+code_of board (Bit op) labels = bit_code op
+code_of board (Device op) labels = []
+code_of board (Eeprom op) labels = []
+code_of board (Table values l) labels = table_code 0 values
 
 -- the words that stand in flash for an instruction, the first one and what may follow it
 abbrev pub words_by : ℕ → AvrInsn → List ℕ
@@ -229,8 +268,8 @@ size_in [] = 0
 size_in (p ∷ ps) = size_of (insn_of p) + size_in ps
 
 -- how many words a primitive takes, wherever it stands
-abbrev pub word_count : BytePrim → ℕ
-word_count p = size_in (code_of p [])
+abbrev pub word_count : Board → BytePrim → ℕ
+word_count board p = size_in (code_of board p [])
 
 -- a latch is written in two cycles by one word
 abbrev pub latch_cycles : BitDest → ℕ
@@ -261,5 +300,5 @@ more_cycles (Device op) = 0
 more_cycles (Eeprom op) = 0
 more_cycles (Table values l) = 0
 
-abbrev pub cycle_count : BytePrim → ℕ
-cycle_count p = word_count p + more_cycles p
+abbrev pub cycle_count : Board → BytePrim → ℕ
+cycle_count board p = word_count board p + more_cycles p

@@ -1,20 +1,17 @@
 -- When the ATmega16 stands for a state of the byte machine.
-use Rattle.std.specs.Prelude.{◌≡◌, ℕ, ◌-◌, ◌<◌, ◌≤◌, ◌⊎◌, ◌==◌, ◌&&◌, ◌||◌, nat_le, Bool, true, false, if◌then◌else◌, List, [], ◌∷◌, length, Option, Some, None, slice_index}
+use Rattle.std.specs.Prelude.{◌≡◌, ℕ, ◌-◌, ◌<◌, ◌≤◌, ◌⊎◌, ◌==◌, ◌&&◌, ◌||◌, nat_le, Bool, true, false, List, length, Option, Some, None, slice_index}
 use Rattle.chip_tables.specs.Scratch.{avr_scratch}
 use Rattle.chip_tables.specs.declared.mega16.TheConstants.{IO_FIRST, SRAM_FIRST, SRAM_END, SCRATCH_FIRST, STACK_TOP}
 use Rattle.byte_code.specs.declared.state.Bytes.{Bytes}
 use Rattle.byte_code.specs.declared.store.Flag.{Flag}
 use Rattle.byte_code.specs.declared.store.Store.{Store}
 use Rattle.chip_tables.specs.Bits.{bit_of}
-use Rattle.chip_tables.specs.declared.pins.PortBit.{PortBit}
-use Rattle.chip_tables.specs.declared.settings.Settings.{Settings}
-use Rattle.byte_code.specs.Store.{in_byte, with_bit}
 use Rattle.chip_tables.specs.declared.target.Target.TheVariants.{Mega16}
 use Rattle.avr_devices.specs.Device.{is_timing, port_of}
 use Rattle.avr_mach.specs.declared.state.AvrState.{AvrState}
 use Rattle.avr_mach.specs.Control.{return_place}
 use Rattle.avr_mach.specs.State.{flag}
-use Rattle.avr_code.specs.Code.{status_bit, is_wire}
+use Rattle.avr_code.specs.Code.{status_bit, is_wire, Board, direction}
 
 -- R1, and R16 to R19, which are no cells
 abbrev pub is_work : ℕ → Bool
@@ -27,16 +24,6 @@ IsHeld a = ((a < IO_FIRST) × (is_work a ≡ false)) ⊎ ((SRAM_FIRST ≤ a) × 
 -- the same but for the wires: the machine has all bits of such a cell
 abbrev pub IsCell : ℕ → Type 0
 IsCell a = ((a < IO_FIRST) × (is_work a ≡ false) × (is_wire a ≡ false)) ⊎ ((SRAM_FIRST ≤ a) × (a < SCRATCH_FIRST))
-
--- what a project sets the chip to: the pins of its outputs, and the settings of its devices
-pub record Board : Type 0 where
-  pub outputs : List PortBit
-  pub settings : Settings
-
--- DDRx for these outputs: a bit for each pin that is one
-abbrev pub direction : List PortBit → ℕ → ℕ
-direction [] port = 0
-direction (p ∷ ps) port = if p.port == port then with_bit (direction ps port) (in_byte p.bit) true else direction ps port
 
 -- the flag is in the status register
 abbrev pub HasFlag : AvrState → Option Flag → Type 0
@@ -79,6 +66,7 @@ pub record StandsAt (board : Board) (places : List ℕ) (m : AvrState) (s : Byte
   pub started : s.started ≡ true → IsStarted board m
   pub flag : HasFlag m s.store.flag
   pub back : s.started ≡ true → HasReturn places m s.open_call
+  pub closed : s.started ≡ false → s.open_call ≡ None
 
 -- The cells are those of a machine with these registers and this RAM, whatever they hold.
 pub record HasCells (cells regs sram : List ℕ) : Type 0 where

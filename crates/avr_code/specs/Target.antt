@@ -1,5 +1,5 @@
 -- The ATmega16 as a target of the assembler, for the primitives that are admitted.
-use Rattle.std.specs.Prelude.{◌≡◌, ◌⊎◌, ℕ, ◌+◌, ◌<◌, true, false}
+use Rattle.std.specs.Prelude.{◌≡◌, ◌⊎◌, ℕ, ◌+◌, ◌<◌, ◌≤◌, length, true, false}
 use Rattle.chip_tables.specs.Bits.{bit_of}
 use Rattle.chip_tables.specs.declared.mega16.TheConstants.{FLASH_WORDS}
 use Rattle.byte_code.specs.declared.prim.BytePrim.{BytePrim}
@@ -26,8 +26,8 @@ use Rattle.avr_devices.specs.Part.{mega16}
 use Rattle.avr_mach.specs.declared.state.AvrState.{AvrState}
 use Rattle.avr_mach.specs.Step.{avr_step}
 use Rattle.target_core.specs.Law.{Target}
-use Rattle.avr_code.specs.Code.{is_wire, code_of, words_of, word_count, cycle_count}
-use Rattle.avr_code.specs.Stands.{IsCell, Board, direction, ShowsAt, StandsAt}
+use Rattle.avr_code.specs.Code.{Board, direction, is_wire, code_of, words_of, word_count, cycle_count}
+use Rattle.avr_code.specs.Stands.{IsCell, ShowsAt, StandsAt}
 
 -- both of its cells are there
 abbrev pub IsWord : ℕ → Type 0
@@ -92,7 +92,11 @@ AdmitsCompare (compares.Less a b) = IsWord a × ReadsWord b
 AdmitsCompare (compares.Equal a b) = IsWord a × ReadsWord b
 AdmitsCompare (compares.Below a n) = IsWord a × (n < 256)
 
--- The cycle poll, calls, jumps but those by a bit or a device, bytes, words and comparisons. Not yet: the start, bits, devices and tables.
+-- the cells are of the SRAM, and the timer's setting fits its registers
+abbrev pub AdmitsStart : Board → ℕ → Type 0
+AdmitsStart board n = (n ≤ 960) × (board.settings.timer.control < 256) × (board.settings.timer.compare < 65536)
+
+-- all but the devices
 abbrev pub Admits : Board → BytePrim → Type 0
 Admits board (Label l) = Unit {0}
 Admits board (Jump l) = Unit {0}
@@ -103,12 +107,12 @@ Admits board (Call l) = Unit {0}
 Admits board Return = Unit {0}
 Admits board (CyclePoll l) = Unit {0}
 Admits board (Compare op) = AdmitsCompare op
-Admits board (Start n) = ⊥
+Admits board (Start n) = AdmitsStart board n
 Admits board (AdcPoll l) = ⊥
 Admits board (Bit op) = AdmitsBit board op
 Admits board (Device op) = ⊥
 Admits board (Eeprom op) = ⊥
-Admits board (Table values l) = ⊥
+Admits board (Table values l) = (0 < length values) × (length values ≤ 256)
 
 -- the cycles of a poll from the step that is answered that it is ready
 abbrev pub leave_count : BytePrim → ℕ
@@ -136,11 +140,11 @@ avr_target board = record {
   shows = λ m s. ShowsAt board m s;
   admits = Admits board;
   size = FLASH_WORDS;
-  words_in = word_count;
-  cycles_in = cycle_count;
+  words_in = word_count board;
+  cycles_in = cycle_count board;
   enter_in = λ p. 0;
   leave_in = leave_count;
-  emitted = λ p at labels. words_of (code_of p labels);
+  emitted = λ p at labels. words_of (code_of board p labels);
   reads = λ r. Unit {0};
   wait = 4;
 }

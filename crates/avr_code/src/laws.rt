@@ -7,7 +7,8 @@ ghost use Rattle.chip_tables.specs.declared.target.Target.TheVariants.{Mega16};
 ghost use Rattle.byte_code.specs.State.{fresh};
 ghost use Rattle.target_core.specs.Law.{MachineLaw};
 ghost use Rattle.avr_mach.specs.Reset.{reset_state};
-ghost use Rattle.avr_code.specs.Stands.{Board, HasCells, StandsAt};
+ghost use Rattle.avr_code.specs.Code.{Board};
+ghost use Rattle.avr_code.specs.Stands.{HasCells, StandsAt};
 ghost use Rattle.avr_code.specs.Target.{avr_target};
 
 /// The code of each primitive that is admitted leads the written ATmega16 to what the primitive comes to, within its words and its cycles.
