@@ -16,3 +16,4 @@ pub mod Control
 pub mod Polling
 pub mod Whole
 pub mod Resets
+pub mod Driven

@@ -1,7 +1,7 @@
 -- The ATmega16's instructions for each primitive.
 --
--- R1 holds 0 once the start was done; R16 to R19 hold nothing between two primitives. A word is computed in R16 and R17, its low byte first, with the other operand in R18 and
--- R19. The cells below 20h are registers, and the others are in the SRAM.
+-- Once the start was done R1 holds 0; R16 to R19 hold nothing between two primitives. A word is computed in R16 and R17, its low byte first, with the other
+-- operand in R18 and R19; the byte of a bit that is tested is in R18. The cells below 20h are registers, and the others are in the SRAM.
 use Rattle.std.specs.Prelude.{ℕ, zero, suc, ◌+◌, ◌-◌, ◌/◌, ◌%◌, ◌^◌, ◌==◌, ◌&&◌, ◌||◌, not, nat_le, nat_lt, Bool, true, false, if◌then◌else◌, List, [], ◌∷◌, ◌++◌, slice_index}
 use Rattle.chip_tables.specs.Bits.{as_bit}
 use Rattle.chip_tables.specs.declared.pins.PortBit.{PortBit}

@@ -1,6 +1,8 @@
 -- When the ATmega16 stands for a state of the byte machine.
 use Rattle.std.specs.Prelude.{◌≡◌, ℕ, ◌-◌, ◌<◌, ◌≤◌, ◌⊎◌, ◌==◌, ◌&&◌, ◌||◌, nat_le, Bool, true, false, List, length, Option, Some, None, slice_index}
 use Rattle.chip_tables.specs.Scratch.{avr_scratch}
+use Rattle.chip_tables.specs.declared.pins.PortBit.{PortBit}
+use Rattle.byte_code.specs.Store.{in_byte}
 use Rattle.chip_tables.specs.declared.mega16.TheConstants.{IO_FIRST, SRAM_FIRST, SRAM_END, SCRATCH_FIRST, STACK_TOP}
 use Rattle.byte_code.specs.declared.state.Bytes.{Bytes}
 use Rattle.byte_code.specs.declared.store.Flag.{Flag}
@@ -34,6 +36,10 @@ HasFlag m (Some f) = flag m (status_bit f.kind) ≡ f.value
 abbrev pub HasReturn : List ℕ → AvrState → Option ℕ → Type 0
 HasReturn places m None = m.stack ≡ STACK_TOP
 HasReturn places m (Some k) = (m.stack ≡ STACK_TOP - 2) × (return_place m ≡ slice_index places k)
+
+-- the pin at this bit of the port
+abbrev pub is_pin : ℕ → ℕ → PortBit → Bool
+is_pin port b p = p.port == port && in_byte p.bit == b
 
 -- R1 is 0, the outputs are set, the cycle timer is set up, and its flag does not stand
 pub record IsStarted (board : Board) (m : AvrState) : Type 0 where

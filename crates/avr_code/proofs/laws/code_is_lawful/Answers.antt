@@ -2,6 +2,5 @@
 use Rattle.avr_code.proofs.Whole.{avr_law}
 use Rattle.avr_code.proofs.laws.code_is_lawful.Goals as goal
 
--- src/laws.rt:14:1
 pub returns : goal.returns
 returns c = avr_law
