@@ -310,6 +310,10 @@ module _ (o : Layout) (c : IsChip o.plan.target) (room : ram_need o.plan.sizes �
       by (kept lt b e) = (b.is ∙ ap (λ p. Some p.address) (sym e), ap (λ p. p.bit) e)
       by (wired past w e) = absurd (omega (arith, h, past))
 
+  -- a variable is in its two bytes
+  pub word_places : (v : ℕ) → v < o.plan.sizes.variables → (low_byte o.plan.target v ≡ Some (word_cell o v)) × (high_byte o.plan.target v ≡ Some (word_cell o v + 1))
+  word_places v h = ((word_view v h).low, (word_view v h).high)
+
   pub low_listed : (v : ℕ) → v < o.plan.sizes.variables → Listed (word_cell o v)
   low_listed v h = record { index = 2 * v; below = omega (arith, h); is = (word_view v h).low }
 

@@ -115,18 +115,18 @@ module _ {M : Type 0} (chip : Chip M) (t : Target M) (p : Project) (o : Layout) 
       let begun = serves.reset eeprom m at_reset in
       let each = bytes.each begun.bytes begun.fresh in
       let first = each.0 in
-      let run = each.1.1 readings answers in
+      let run = each.2 readings answers in
       let same = serves.step (words ++ rest) in
       let there : moment (t.step (words ++ rest)) j (first_moment m readings answers) ≡ Some c =
       subst (λ (step : Stepper M). moment step j (first_moment m readings answers) ≡ Some c) (sym same) reached in
       let h = runs rest m begun.bytes readings answers (record { place = begun.fresh.place; started = begun.stopped; open_call = begun.fresh.closed })
       (all_reads chip.reads t.reads serves.reads readings fits) (begun.stands (places_from t.words_in 0 code) (first_place t.words_in code)) run.counts j c there in
-      let b = h.bytes.1.0 in
-      let at_byte = h.bytes.1.1.0 in
-      let stands = h.bytes.1.1.1 in
+      let b = h.bytes.1 in
+      let at_byte = h.bytes.2 in
+      let stands = h.bytes.3 in
       let silent : b.sent ≡ [] = run.silent h.bytes.0 b at_byte in
       let sent : c.sent ≡ [] = front_of_none c.sent stands.sent.0 (stands.sent.1 ∙ silent) in
-      let e = ends_at (slice_index eeprom) first readings (begun_shown begun.bytes.store.eeprom eeprom first each.1.0 begun.kept) run.sends c.taken
+      let e = ends_at (slice_index eeprom) first readings (begun_shown begun.bytes.store.eeprom eeprom first each.1 begun.kept) run.sends c.taken
       (taken_few (t.step (words ++ rest)) m readings answers j c there) in
       record {
         goes_on = subst (λ (step : Stepper M). onward step c ≢ IsStuck) same h.not_stuck;
@@ -138,8 +138,8 @@ module _ {M : Type 0} (chip : Chip M) (t : Target M) (p : Project) (o : Layout) 
         ready = λ asks.
             let shows = stands.asks (subst (λ (step : Stepper M). ask_of step c.state ≡ ask.Reading) (sym same) asks) in
             let poll = shows.poll in
-            let stood = run.polls h.bytes.0 b poll.0 at_byte poll.1.0 poll.1.1 in
-            let started = run.started h.bytes.0 b poll.0 at_byte poll.1.0 poll.1.1 in
+            let stood = run.polls h.bytes.0 b poll.0 at_byte poll.1 poll.2 in
+            let started = run.started h.bytes.0 b poll.0 at_byte poll.1 poll.2 in
             record {
               shows = state_shown p o program linked (chip.view c.state) b.state.bytes.store (store_behind program.ops first (map (seen o) readings) c.taken)
                   e.end.state (serves.shows c.state b.state.bytes shows.shows started)

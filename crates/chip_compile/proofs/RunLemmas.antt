@@ -42,4 +42,4 @@ counts_kept step n c d h e = answered_kept step n c d (ask_of step c.state) c.re
 pub taken_few : {M : Type 0} (step : Stepper M) (m : M) (readings : List PinReading) (answers : List Bool) (n : ℕ) (c : Moment M) →
     moment step n (first_moment m readings answers) ≡ Some c → c.taken ≤ length readings
 taken_few step m readings answers n c e =
-    let h = keeps_on step (Counts (length readings)) (counts_kept step (length readings)) n (first_moment m readings answers) c refl e in omega (arith, h)
+    let h = keeps_on step (Counts (length readings)) (counts_kept step (length readings)) n (first_moment m readings answers) c (omega arith) e in omega (arith, h)

@@ -22,7 +22,7 @@ use Rattle.byte_code.specs.declared.store.Store.{Store}
 use Rattle.byte_lower.specs.Layout.{word_cell, bit_cell, pin_at}
 use Rattle.byte_lower.specs.Stands.{Stands}
 use Rattle.byte_lower.specs.declared.layout.Layout.{Layout}
-use Rattle.byte_lower.proofs.PlaceLemmas.{low_listed, high_listed, kept_at}
+use Rattle.byte_lower.proofs.PlaceLemmas.{word_places, kept_at}
 use Rattle.chip_meaning.specs.Chip.{View}
 use Rattle.chip_meaning.specs.Shows.{Shows, HasNumber, HasBit}
 use Rattle.chip_compile.specs.Linked.{IsLinked}
@@ -47,16 +47,13 @@ module _ (p : Project) (o : Layout) (program : IntProgram) (linked : IsLinked p 
   number_shown k lt =
       let below : k < o.plan.sizes.variables = omega (arith, lt, variables) in
       let a = word_cell o k in
-      let low = low_listed o o.chip o.plan.ram_fits k below in
-      let high = high_listed o o.chip o.plan.ram_fits k below in
-      let at_low : low_byte o.plan.target k ≡ Some a = low.is in
-      let at_high : high_byte o.plan.target k ≡ Some (a + 1) = high.is in
+      let at = word_places o o.chip o.plan.ram_fits k below in
       record {
         low = a;
         high = a + 1;
-        at_low = subst (λ (x : Target). low_byte x k ≡ Some a) linked.target at_low;
-        at_high = subst (λ (x : Target). high_byte x k ≡ Some (a + 1)) linked.target at_high;
-        holds = words_same _ _ _ _ (holds.cells low.index a low.is) (holds.cells high.index (a + 1) high.is) ∙ (stands.numbers k below).word
+        at_low = subst (λ (x : Target). low_byte x k ≡ Some a) linked.target at.0;
+        at_high = subst (λ (x : Target). high_byte x k ≡ Some (a + 1)) linked.target at.1;
+        holds = words_same _ _ _ _ (holds.cells (2 * k) a at.0) (holds.cells (2 * k + 1) (a + 1) at.1) ∙ (stands.numbers k below).word
             ∙ ap word_of (shows.variables k lt);
       }
 
