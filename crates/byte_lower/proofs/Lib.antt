@@ -15,3 +15,4 @@ pub mod ListLemmas
 pub mod PinLemmas
 pub mod SampleLemmas
 pub mod AdmitLemmas
+pub mod FormedLemmas

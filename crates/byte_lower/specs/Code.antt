@@ -77,8 +77,8 @@ store_behind ops t rs zero = t
 store_behind ops t [] (suc k) = t
 store_behind ops t (r ∷ rs) (suc k) = store_behind ops (cycle r ops t).store rs k
 
--- A run keeps its counts and sends nothing, as the operations send nothing; and where it is at a cycle poll, the start is behind, and its bytes stand for the store
--- behind the cycles of the readings that it took.
+-- A run keeps its counts and sends nothing, as the operations send nothing; and where it is at a cycle poll, the start is behind, and its bytes stand for
+-- the store behind the cycles of the readings that it took.
 pub record RunsAs (o : Layout) (p : IntProgram) (code : List Paced) (t : Store) (s : Bytes) (readings : List PinReading) (answers : List Bool) : Type 0 where
   pub counts : KeepsCounts code s readings answers
   pub polls : (j : ℕ) (b : Moment Counted) (q : Paced) → moment (counted_step code) j (first_moment (uncounted s) readings answers) ≡ Some b →

@@ -3,6 +3,7 @@ pub mod Layout
 pub mod Stands
 pub mod Code
 pub mod Whole
+pub mod Placed
 pub mod Outfit
 pub mod Samples
 -- the list of each operation

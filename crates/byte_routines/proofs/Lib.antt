@@ -4,3 +4,4 @@ pub mod WordSteps
 pub mod GoLemmas
 pub mod ProductLemmas
 pub mod QuotientLemmas
+pub mod CallLemmas

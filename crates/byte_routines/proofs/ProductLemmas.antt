@@ -51,14 +51,14 @@ multiplied_is s d a b r e f g h k =
     ∙ ap (λ x. with_word (with_word (with_word d s.outcome (step_outcome a (b % 256) x r)) s.right
     (b % 256 / 2 + x / 2 * 256)) s.left (a * 2 % 65536)) k
 
-step_works : (s : Scratch) (apart : IsApart s) (d e : Store) (a b r n g : ℕ) → Works s d e a b r n g →
+step_works : (s : Scratch) (apart : IsApart s) (d e : Store) (a b r n g : ℕ) → r < 65536 → Works s d e a b r n g →
     Works s d (plain (multiplied e)) (a * 2 % 65536) (b % 256 / 2 + b / 256 / 2 * 256) (step_outcome a (b % 256) (b / 256) r) n g
-step_works s apart d e a b r n g w =
+step_works s apart d e a b r n g few w =
     let small : b % 256 / 2 + b / 256 / 2 * 256 < 65536 = omega (arith, w.right.small) in
     let one = put_outcome s apart d e a b r n g w (step_outcome a (b % 256) (b / 256) r) (omega arith) in
     let two = put_right s apart d _ a b _ n g one (b % 256 / 2 + b / 256 / 2 * 256) small in
     let three = put_left s apart d _ a _ _ n g two (a * 2 % 65536) (omega arith) in
-    let same = multiplied_is s e a b r w.scratch (word_is e s.left a w.left) (word_is e s.outcome r w.outcome) w.right.low w.right.high in
+    let same = multiplied_is s e a b r w.scratch (word_is e s.left a w.left) (word_is e s.outcome r (w.outcome few)) w.right.low w.right.high in
     put_flag s apart d (multiplied e) _ _ _ n g (subst (λ x. Works s d x (a * 2 % 65536) (b % 256 / 2 + b / 256 / 2 * 256)
     (step_outcome a (b % 256) (b / 256) r) n g) (sym same) three) None
 
@@ -110,6 +110,7 @@ module _ (code : List Paced) (T : Bytes → Type 0) (s : Scratch) (apart : IsApa
     opened : e.open_call ≡ Some back
     works : Works s d e.store a b r (suc m) g
     few : suc m < 256
+    small : r < 65536
     low : b % 256 < doubled (suc m)
     high : b / 256 < doubled (suc m)
     is : (r + a * b) % 65536 ≡ p
@@ -149,6 +150,7 @@ module _ (code : List Paced) (T : Bytes → Type 0) (s : Scratch) (apart : IsApa
     opened : e.open_call ≡ Some back
     works : Works s d e.store a b r (suc m) g
     few : suc m < 256
+    small : r < 65536
     low : b % 256 < doubled m
     high : b / 256 < doubled m
     is : (r + a * b) % 65536 ≡ p
@@ -169,8 +171,9 @@ module _ (code : List Paced) (T : Bytes → Type 0) (s : Scratch) (apart : IsApa
       (next e2 (a * 2 % 65536) b2 (step_outcome a (b % 256) (b / 256) r) (record {
         place = ap (λ x. suc (suc x)) h.place;
         opened = h.opened;
-        works = step_works s apart d e1.store a b r (suc m) g (put_flag s apart d e.store a b r (suc m) g h.works None);
+        works = step_works s apart d e1.store a b r (suc m) g h.small (put_flag s apart d e.store a b r (suc m) g h.works None);
         few = h.few;
+        small = omega arith;
         low = subst (λ x. x < doubled m) (sym low_half) (half_below (b % 256) m h.low);
         high = subst (λ x. x < doubled m) (sym high_half) (half_below (b / 256) m h.high);
         is = product_step a (b % 256) (b / 256) r ∙ ap (λ x. (r + a * x) % 65536) same ∙ h.is;
@@ -189,7 +192,7 @@ module _ (code : List Paced) (T : Bytes → Type 0) (s : Scratch) (apart : IsApa
       let falls : onward e (says test.LoopsOn (tested test.LoopsOn e.store)) ≡ suc (suc (suc (up 3 at))) = ap (onward e) none ∙ ap suc h.place in
       via code T e (begun (calls * 8) (JumpWhere test.LoopsOn MULTIPLY_LOOP)) (suc (suc (suc (up 3 at)))) more
       (at_word 5 (begun (calls * 8) (JumpWhere test.LoopsOn MULTIPLY_LOOP)) e h.place refl) refl (tt, tt) refl falls
-      (after _ a b r g falls h.opened w (at_end p a b r h.low h.high w.outcome.small h.is))
+      (after _ a b r g falls h.opened w (at_end p a b r h.low h.high h.small h.is))
 
   jump_back : (n p a b r g : ℕ) (e : Bytes) (L : List ℕ) → AtJump p (suc n) e a b r g →
       ((e3 : Bytes) → AtLoop p n e3 a b r g → Way code T e3 L []) → Way code T e (up 3 at ∷ L) []
@@ -205,6 +208,7 @@ module _ (code : List Paced) (T : Bytes → Type 0) (s : Scratch) (apart : IsApa
         opened = h.opened;
         works = w;
         few = omega (arith, h.few);
+        small = h.small;
         low = h.low;
         high = h.high;
         is = h.is;
@@ -241,6 +245,7 @@ module _ (code : List Paced) (T : Bytes → Type 0) (s : Scratch) (apart : IsApa
         opened = opened;
         works = w3;
         few = omega arith;
+        small = omega arith;
         low = omega arith;
         high = omega (arith, w.right.small);
         is = is;

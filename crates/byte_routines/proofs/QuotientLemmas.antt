@@ -48,10 +48,10 @@ divided_is s d a b r e f g h =
     ap (λ x. divided_by x d (word_at d x.left) (word_at d x.right) (word_at d x.outcome)) e ∙ ap (λ x. divided_by s d x (word_at d s.right) (word_at d s.outcome)) f
     ∙ ap (λ x. divided_by s d a x (word_at d s.outcome)) g ∙ ap (divided_by s d a b) h
 
-step_works : (s : Scratch) (apart : IsApart s) (d e : Store) (a b r n g : ℕ) → Works s d e a b r n g →
+step_works : (s : Scratch) (apart : IsApart s) (d e : Store) (a b r n g : ℕ) → r < 65536 → Works s d e a b r n g →
     Works s d (plain (divided e)) (step_left a b r) b (step_rest a b r) n g
-step_works s apart d e a b r n g w =
-    let same = divided_is s e a b r w.scratch (word_is e s.left a w.left) (word_is e s.right b w.right) (word_is e s.outcome r w.outcome) in
+step_works s apart d e a b r n g few w =
+    let same = divided_is s e a b r w.scratch (word_is e s.left a w.left) (word_is e s.right b w.right) (word_is e s.outcome r (w.outcome few)) in
     put_flag s apart d (divided e) _ _ _ n g (subst (λ x. Works s d x (step_left a b r) b (step_rest a b r) n g) (sym same) (by (nat_le b (rest_on a r)))) None
   where
     by : (c : Bool) → Works s d (if c then with_word (with_word e s.outcome (rest_on a r - b)) s.left (a * 2 % 65536 + 1)
@@ -155,7 +155,7 @@ module _ (code : List Paced) (T : Bytes → Type 0) (s : Scratch) (apart : IsApa
       (next e2 (step_left a y r) (step_rest a y r) (record {
         place = ap (λ x. suc (suc x)) h.place;
         opened = h.opened;
-        works = step_works s apart d e1.store a y r (suc m) g (put_flag s apart d e.store a y r (suc m) g h.works None);
+        works = step_works s apart d e1.store a y r (suc m) g (let low = h.is.rest in omega (arith, low, h.low)) (put_flag s apart d e.store a y r (suc m) g h.works None);
         few = h.few;
         low = h.low;
         is = step_divides x y a r m h.low h.is;

@@ -6,11 +6,8 @@ use Rattle.chip_tables.specs.declared.scratch.Scratch.{Scratch}
 use Rattle.byte_code.specs.declared.store.Flag.{Flag}
 use Rattle.byte_code.specs.declared.store.Store.{Store}
 use Rattle.byte_code.specs.Store.{cell, with_cell, word_at, with_word}
+pub use Rattle.byte_routines.specs.Calls.{Off, IsWord, IsOther}
 use Rattle.byte_routines.proofs.CellLemmas.{cell_put, cell_kept, cells_kept, word_put_other, words_kept}
-
--- a cell is none of a word's
-abbrev pub Off : ℕ → ℕ → Type 0
-Off c a = (c ≢ a) × (c ≢ a + 1)
 
 -- two words have no cell in common
 abbrev pub Far : ℕ → ℕ → Type 0
@@ -89,12 +86,6 @@ avr_apart = apart_by avr_scratch (omega arith) (omega arith) (omega arith) (omeg
     (inr (omega arith)) (inl (omega arith)) (inl (omega arith)) (inl (omega arith)) (inl (omega arith)) (inl (omega arith)) (inl (omega arith)) (inl (omega arith))
     (inl (omega arith)) (inr (omega arith))
 
--- a word's two cells are bytes
-pub record IsWord (d : Store) (at n : ℕ) : Type 0 where
-  pub small : n < 65536
-  pub low : cell d at ≡ n % 256
-  pub high : cell d (at + 1) ≡ n / 256
-
 pub word_is : (d : Store) (at n : ℕ) → IsWord d at n → word_at d at ≡ n
 word_is d at n w = omega (arith, w.low, w.high)
 
@@ -121,21 +112,14 @@ word_beside d c x other m off w = record {
   high = cell_kept d c x (other + 1) (λ e. off.1 (sym e)) ∙ w.high;
 }
 
--- a cell that the routines do not use
-pub record IsOther (s : Scratch) (c : ℕ) : Type 0 where
-  pub left : Off c s.left
-  pub right : Off c s.right
-  pub outcome : Off c s.outcome
-  pub count : c ≢ s.count
-  pub sign : c ≢ s.sign
-
--- Store d, worked upon: its words and cells for the routines are these, and the others and the devices are as before.
+-- Store d, worked upon: its words and cells for the routines are these, and the others and the devices are as before. An
+-- outcome of 65536 says nothing.
 pub record Works (s : Scratch) (d e : Store) (a b r n g : ℕ) : Type 0 where
   pub scratch : e.scratch ≡ s
   pub cells : length e.cells ≡ 1120
   pub left : IsWord e s.left a
   pub right : IsWord e s.right b
-  pub outcome : IsWord e s.outcome r
+  pub outcome : r < 65536 → IsWord e s.outcome r
   pub count : cell e s.count ≡ n
   pub sign : cell e s.sign ≡ g
   pub kept : (c : ℕ) → IsOther s c → cell e c ≡ cell d c
@@ -152,7 +136,7 @@ module _ (s : Scratch) (apart : IsApart s) (d e : Store) (a b r n g : ℕ) (w : 
         cells = words_kept e s.left x ∙ w.cells;
         left = put_word e s.left x (within s.left apart.left) small;
         right = word_stays e s.left x s.right b apart.right_left w.right;
-        outcome = word_stays e s.left x s.outcome r apart.outcome_left w.outcome;
+        outcome = λ few. word_stays e s.left x s.outcome r apart.outcome_left (w.outcome few);
         count = word_put_other e s.left x s.count apart.count_left.0 apart.count_left.1 ∙ w.count;
         sign = word_put_other e s.left x s.sign apart.sign_left.0 apart.sign_left.1 ∙ w.sign;
         kept = λ c o. word_put_other e s.left x c o.left.0 o.left.1 ∙ w.kept c o;
@@ -166,7 +150,7 @@ module _ (s : Scratch) (apart : IsApart s) (d e : Store) (a b r n g : ℕ) (w : 
         cells = words_kept e s.right x ∙ w.cells;
         left = word_stays e s.right x s.left a apart.left_right w.left;
         right = put_word e s.right x (within s.right apart.right) small;
-        outcome = word_stays e s.right x s.outcome r apart.outcome_right w.outcome;
+        outcome = λ few. word_stays e s.right x s.outcome r apart.outcome_right (w.outcome few);
         count = word_put_other e s.right x s.count apart.count_right.0 apart.count_right.1 ∙ w.count;
         sign = word_put_other e s.right x s.sign apart.sign_right.0 apart.sign_right.1 ∙ w.sign;
         kept = λ c o. word_put_other e s.right x c o.right.0 o.right.1 ∙ w.kept c o;
@@ -180,7 +164,7 @@ module _ (s : Scratch) (apart : IsApart s) (d e : Store) (a b r n g : ℕ) (w : 
         cells = words_kept e s.outcome x ∙ w.cells;
         left = word_stays e s.outcome x s.left a apart.left_outcome w.left;
         right = word_stays e s.outcome x s.right b apart.right_outcome w.right;
-        outcome = put_word e s.outcome x (within s.outcome apart.outcome) small;
+        outcome = λ few. put_word e s.outcome x (within s.outcome apart.outcome) small;
         count = word_put_other e s.outcome x s.count apart.count_outcome.0 apart.count_outcome.1 ∙ w.count;
         sign = word_put_other e s.outcome x s.sign apart.sign_outcome.0 apart.sign_outcome.1 ∙ w.sign;
         kept = λ c o. word_put_other e s.outcome x c o.outcome.0 o.outcome.1 ∙ w.kept c o;
@@ -194,7 +178,7 @@ module _ (s : Scratch) (apart : IsApart s) (d e : Store) (a b r n g : ℕ) (w : 
         cells = cells_kept e s.count x ∙ w.cells;
         left = word_beside e s.count x s.left a apart.count_left w.left;
         right = word_beside e s.count x s.right b apart.count_right w.right;
-        outcome = word_beside e s.count x s.outcome r apart.count_outcome w.outcome;
+        outcome = λ few. word_beside e s.count x s.outcome r apart.count_outcome (w.outcome few);
         count = cell_put e s.count x (omega (arith, apart.count, w.cells));
         sign = cell_kept e s.count x s.sign (λ f. apart.count_sign (sym f)) ∙ w.sign;
         kept = λ c o. cell_kept e s.count x c o.count ∙ w.kept c o;
@@ -208,7 +192,7 @@ module _ (s : Scratch) (apart : IsApart s) (d e : Store) (a b r n g : ℕ) (w : 
         cells = cells_kept e s.sign x ∙ w.cells;
         left = word_beside e s.sign x s.left a apart.sign_left w.left;
         right = word_beside e s.sign x s.right b apart.sign_right w.right;
-        outcome = word_beside e s.sign x s.outcome r apart.sign_outcome w.outcome;
+        outcome = λ few. word_beside e s.sign x s.outcome r apart.sign_outcome (w.outcome few);
         count = cell_kept e s.sign x s.count apart.count_sign ∙ w.count;
         sign = cell_put e s.sign x (omega (arith, apart.sign, w.cells));
         kept = λ c o. cell_kept e s.sign x c o.sign ∙ w.kept c o;
@@ -222,7 +206,7 @@ module _ (s : Scratch) (apart : IsApart s) (d e : Store) (a b r n g : ℕ) (w : 
         cells = w.cells;
         left = record { small = w.left.small; low = w.left.low; high = w.left.high };
         right = record { small = w.right.small; low = w.right.low; high = w.right.high };
-        outcome = record { small = w.outcome.small; low = w.outcome.low; high = w.outcome.high };
+        outcome = λ few. let x = w.outcome few in record { small = x.small; low = x.low; high = x.high };
         count = w.count;
         sign = w.sign;
         kept = w.kept;
