@@ -1,0 +1,2 @@
+-- what a reader of the promises must believe
+pub mod Machine
