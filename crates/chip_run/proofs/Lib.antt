@@ -2,3 +2,4 @@ pub mod LineLemmas
 pub mod TurnLemmas
 pub mod PinLemmas
 pub mod ViewLemmas
+pub mod CarryLemmas

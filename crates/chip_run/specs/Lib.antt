@@ -3,3 +3,4 @@ pub mod Replay
 pub mod Shown
 pub mod Lines
 pub mod AtPins
+pub mod Agree

@@ -2,6 +2,7 @@
 #![tactic(auto)]
 
 pub mod end;
+pub mod laws;
 pub mod machine;
 pub mod pins;
 pub mod replay;

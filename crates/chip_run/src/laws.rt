@@ -1,0 +1,11 @@
+//! Laws of runs on chips, each the contract of a function that does nothing.
+
+ghost use Rattle.chip_run.specs.Agree.{CarriedAgree};
+
+use crate::machine::ChipMachine;
+
+/// Over words that carry a project, the run from reset over any readings of the chip takes each of them, and behind each the chip shows the ladder's state
+/// and sent the ladder's byte.
+pub fn carried_words_agree<M: ChipMachine>()
+    ensures { CarriedAgree M.chip }
+{}
