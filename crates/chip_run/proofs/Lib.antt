@@ -3,3 +3,4 @@ pub mod TurnLemmas
 pub mod PinLemmas
 pub mod ViewLemmas
 pub mod CarryLemmas
+pub mod ShownLemmas

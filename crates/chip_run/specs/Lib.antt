@@ -4,3 +4,4 @@ pub mod Shown
 pub mod Lines
 pub mod AtPins
 pub mod Agree
+pub mod ShownAgree

@@ -1,6 +1,7 @@
 //! Laws of runs on chips, each the contract of a function that does nothing.
 
 ghost use Rattle.chip_run.specs.Agree.{CarriedAgree};
+ghost use Rattle.chip_run.specs.ShownAgree.{ShownAgree};
 
 use crate::machine::ChipMachine;
 
@@ -8,4 +9,9 @@ use crate::machine::ChipMachine;
 /// and sent the ladder's byte.
 pub fn carried_words_agree<M: ChipMachine>()
     ensures { CarriedAgree M.chip }
+{}
+
+/// Where a chip shows a ladder's state, what is shown of the chip is what is shown of the ladder.
+pub fn what_is_shown_agrees()
+    ensures { ShownAgree }
 {}
