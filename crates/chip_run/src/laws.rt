@@ -1,0 +1,17 @@
+//! Laws of runs on chips, each the contract of a function that does nothing.
+
+ghost use Rattle.chip_run.specs.Agree.{CarriedAgree};
+ghost use Rattle.chip_run.specs.ShownAgree.{ShownAgree};
+
+use crate::machine::ChipMachine;
+
+/// Over words that carry a project, the run from reset over any readings of the chip takes each of them, and behind each the chip shows the ladder's state
+/// and sent the ladder's byte.
+pub fn carried_words_agree<M: ChipMachine>()
+    ensures { CarriedAgree M.chip }
+{}
+
+/// Where a chip shows a ladder's state, what is shown of the chip is what is shown of the ladder.
+pub fn what_is_shown_agrees()
+    ensures { ShownAgree }
+{}
