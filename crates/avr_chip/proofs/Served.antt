@@ -80,5 +80,5 @@ module _ (board : Board) (o : Layout) (fits : IsAvrLayout board o) where
             (reset_stands r.sram r.regs eeprom cells board places r.regs_bytes.all r.sram_bytes.all has first);
       }
 
-  pub served : Serves (avr_chip board.settings) (avr_target board) o
+  pub served : Serves avr_chip (IsReset board.settings) (avr_target board) o
   served = record { step = λ flash. refl; wait = refl; reads = λ r h. tt; reset = fresh_at; shows = held }

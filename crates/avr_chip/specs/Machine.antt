@@ -34,11 +34,10 @@ pub record IsReset (settings : Settings) (eeprom : List ℕ) (m : AvrState) : Ty
   pub eeprom_bytes : AreBytes eeprom EEPROM_BYTES
   pub is : m ≡ reset_state sram regs eeprom settings
 
--- The ATmega16 with these settings of its devices. A turn of the loop that waits for an answer takes four cycles.
-abbrev pub avr_chip : Settings → Chip AvrState
-avr_chip settings = record {
+-- The ATmega16. A turn of the loop that waits for an answer takes four cycles.
+abbrev pub avr_chip : Chip AvrState
+avr_chip = record {
   step = avr_step mega16;
-  is_reset = IsReset settings;
   view = view_of;
   reads = λ r. All (λ n. n ≤ ANALOG_NUMBER) r.adc;
   wait = 4;

@@ -27,7 +27,7 @@ use Rattle.byte_lower.specs.declared.layout.Layout.{Layout}
 use Rattle.target_core.specs.Law.{Target}
 use Rattle.target_core.specs.Laid.{segment_bound}
 use Rattle.target_core.specs.Whole.{RunsAs, places_from}
-use Rattle.chip_meaning.specs.Chip.{Chip}
+use Rattle.chip_meaning.specs.Chip.{Chip, Resets}
 use Rattle.chip_meaning.specs.Carries as chips
 use Rattle.chip_meaning.specs.Carries.{IsEnd, IsFrontOf, all_seen, most_in}
 use Rattle.chip_compile.specs.Linked.{IsLinked}
@@ -62,8 +62,8 @@ mapped_length : {A B : Type 0} (f : A → B) (xs : List A) → length (map f xs)
 mapped_length f [] = refl
 mapped_length f (x ∷ xs) = ap suc (mapped_length f xs)
 
-module _ {M : Type 0} (chip : Chip M) (t : Target M) (p : Project) (o : Layout) (program : IntProgram) (code : List Paced) (words : List ℕ) (cycles boot : ℕ)
-    (serves : Serves chip t o) (linked : IsLinked p o program) (bytes : Carries o program code) (runs : RunsAs t code words cycles boot) where
+module _ {M : Type 0} (chip : Chip M) (resets : Resets M) (t : Target M) (p : Project) (o : Layout) (program : IntProgram) (code : List Paced) (words : List ℕ) (cycles boot : ℕ)
+    (serves : Serves chip resets t o) (linked : IsLinked p o program) (bytes : Carries o program code) (runs : RunsAs t code words cycles boot) where
   abbrev n : Names
   n = names_of p.rungs
 
@@ -110,7 +110,7 @@ module _ {M : Type 0} (chip : Chip M) (t : Target M) (p : Project) (o : Layout) 
         silent = sym a.shows.sent ∙ ap (λ (x : store.Store). x.devices.sent) at ∙ quiet (suc k);
       }
 
-  pub carried : chips.Carries chip p words cycles boot
+  pub carried : chips.Carries chip resets p words cycles boot
   carried rest m eeprom readings answers at_reset fits j c reached =
       let begun = serves.reset eeprom m at_reset in
       let each = bytes.each begun.bytes begun.fresh in

@@ -13,7 +13,7 @@ use Rattle.byte_lower.specs.Code.{IsFresh}
 use Rattle.byte_lower.specs.Layout.{pin_at}
 use Rattle.byte_lower.specs.declared.layout.Layout.{Layout}
 use Rattle.target_core.specs.Law.{Target}
-use Rattle.chip_meaning.specs.Chip.{Chip, View}
+use Rattle.chip_meaning.specs.Chip.{Chip, Resets, View}
 
 -- what is seen of the chip is what the byte machine holds: RAM, the latches of the outputs and the EEPROM; and it drives the outputs' pins alone
 pub record HoldsStore (o : Layout) (v : View) (d : Store) : Type 0 where
@@ -30,10 +30,10 @@ pub record StandsFresh {M : Type 0} (t : Target M) (o : Layout) (eeprom : List �
   pub kept : bytes.store.eeprom ≡ eeprom
   pub stands : (places : List ℕ) → slice_index places 0 ≡ 0 → t.stands places m bytes
 
--- the chip is the machine of a target of the assembler
-pub record Serves {M : Type 0} (chip : Chip M) (t : Target M) (o : Layout) : Type 1 where
+-- the chip, reset like this, is the machine of a target of the assembler
+pub record Serves {M : Type 0} (chip : Chip M) (resets : Resets M) (t : Target M) (o : Layout) : Type 1 where
   pub step : (flash : List ℕ) → t.step flash ≡ steps_over chip.step flash
   pub wait : t.wait ≡ chip.wait
   pub reads : (r : PinReading) → chip.reads r → t.reads r
-  pub reset : (eeprom : List ℕ) (m : M) → chip.is_reset eeprom m → StandsFresh t o eeprom m
+  pub reset : (eeprom : List ℕ) (m : M) → resets eeprom m → StandsFresh t o eeprom m
   pub shows : (m : M) (s : Bytes) → t.shows m s → s.started ≡ true → HoldsStore o (chip.view m) s.store

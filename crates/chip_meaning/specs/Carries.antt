@@ -10,7 +10,7 @@ use Rattle.ladder_tree.specs.declared.project.Project.{Project}
 use Rattle.ladder_meaning.specs.Cycle.{Ended, start, history}
 use Rattle.ladder_meaning.specs.State.{Seen, State, seen}
 use Rattle.mem_plan.specs.Seen.{pins_seen}
-use Rattle.chip_meaning.specs.Chip.{Chip}
+use Rattle.chip_meaning.specs.Chip.{Chip, Resets}
 use Rattle.chip_meaning.specs.Shows.{Shows}
 
 -- one list is the beginning of another
@@ -50,8 +50,8 @@ pub record Holds {M : Type 0} (chip : Chip M) (flash : List ℕ) (p : Project) (
 -- The words carry the project: whatever stands behind them in flash, whatever the chip's RAM, registers and EEPROM hold at reset, and whatever readings
 -- and answers come, all of the above holds at each moment. `cycles` is what passes at most from a reading that is taken to the next, and `boot` what
 -- passes before the first.
-abbrev pub Carries : {M : Type 0} → Chip M → Project → List ℕ → ℕ → ℕ → Type 0
-Carries {M} chip p words cycles boot =
-    (rest : List ℕ) (m : M) (eeprom : List ℕ) (readings : List PinReading) (answers : List Bool) → chip.is_reset eeprom m →
+abbrev pub Carries : {M : Type 0} → Chip M → Resets M → Project → List ℕ → ℕ → ℕ → Type 0
+Carries {M} chip resets p words cycles boot =
+    (rest : List ℕ) (m : M) (eeprom : List ℕ) (readings : List PinReading) (answers : List Bool) → resets eeprom m →
     AllByRecursion chip.reads readings → (n : ℕ) (c : Moment M) →
     moment (steps_over chip.step (words ++ rest)) n (first_moment m readings answers) ≡ Some c → Holds chip (words ++ rest) p (slice_index eeprom) readings cycles boot c

@@ -12,10 +12,13 @@ pub record View : Type 0 where
   pub drives : PortBit → Bool
   pub eeprom : ℕ → ℕ
 
--- A chip's written machine. A machine is reset with these bytes in its EEPROM, whatever its RAM and its registers hold. The converter gives readings of a kind alone, and each answer that a device is not ready takes so many cycles.
+-- A chip's written machine. Its converter gives readings of a kind alone, and each answer that a device is not ready takes so many cycles.
 pub record Chip (M : Type 0) : Type 1 where
   pub step : Step M
-  pub is_reset : List ℕ → M → Type 0
   pub view : M → View
   pub reads : PinReading → Type 0
   pub wait : ℕ
+
+-- what a machine may be at reset with these bytes in its EEPROM: its RAM and its registers hold anything
+abbrev pub Resets : Type 0 → Type 1
+Resets M = List ℕ → M → Type 0

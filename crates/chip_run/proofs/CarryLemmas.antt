@@ -19,7 +19,7 @@ use Rattle.runs.proofs.RunLemmas.{onward_is, moment_more}
 use Rattle.ladder_meaning.specs.Cycle.{start, history}
 use Rattle.ladder_meaning.specs.View.{sent_of}
 use Rattle.ladder_tree.specs.declared.project.Project.{Project}
-use Rattle.chip_meaning.specs.Chip.{Chip}
+use Rattle.chip_meaning.specs.Chip.{Chip, Resets}
 use Rattle.chip_meaning.specs.Carries.{Carries, Holds, IsEnd, most_in, all_seen}
 use Rattle.chip_run.specs.declared.end.CycleEnd.TheVariants as cycle
 use Rattle.chip_run.specs.declared.end.RunEnd.TheVariants as run
@@ -278,10 +278,11 @@ pub record AgreesWithin {M : Type 0} (limit : ℕ) (chip : Chip M) (p : Project)
   pub ends : (replay_within limit chip.step flash m rs).end ≡ run.Done
   pub cycles : AreCycles chip p (history p (start p (slice_index eeprom)) (all_seen p rs)) 0 (replay_within limit chip.step flash m rs).cycles
 
-pub agrees_within : {M : Type 0} (limit : ℕ) (chip : Chip M) (p : Project) (words rest : List ℕ) (cycles boot : ℕ) → Carries chip p words cycles boot →
-    cycles < limit → boot < limit → TakesCycles chip (words ++ rest) → (m : M) (eeprom : List ℕ) (rs : List PinReading) → chip.is_reset eeprom m →
+pub agrees_within : {M : Type 0} (limit : ℕ) (chip : Chip M) (resets : Resets M) (p : Project) (words rest : List ℕ) (cycles boot : ℕ) →
+    Carries chip resets p words cycles boot →
+    cycles < limit → boot < limit → TakesCycles chip (words ++ rest) → (m : M) (eeprom : List ℕ) (rs : List PinReading) → resets eeprom m →
     AllByRecursion chip.reads rs → AgreesWithin limit chip p (words ++ rest) m eeprom rs
-agrees_within limit chip p words rest cycles boot carries in_cycle in_boot takes m eeprom rs reset reads =
+agrees_within limit chip resets p words rest cycles boot carries in_cycle in_boot takes m eeprom rs reset reads =
     let flash = words ++ rest in
     let enough = limit + 1 + needed limit rs in
     let answers = replicate enough true in
@@ -296,8 +297,8 @@ agrees_within limit chip p words rest cycles boot carries in_cycle in_boot takes
     record { ends = ap (λ x. x.end) run_is ∙ after.ends; cycles = rw run_is (rw end.taken at after.cycles) }
 
 -- so does the run with the limit of this project
-pub agrees : {M : Type 0} (chip : Chip M) → CarriedAgree chip
-agrees chip p words rest cycles boot carries in_cycle in_boot takes m eeprom rs reset reads =
-    let within = agrees_within CYCLES_MOST chip p words rest cycles boot carries in_cycle in_boot takes m eeprom rs reset reads in
+pub agrees : {M : Type 0} (chip : Chip M) (resets : Resets M) → CarriedAgree chip resets
+agrees chip resets p words rest cycles boot carries in_cycle in_boot takes m eeprom rs reset reads =
+    let within = agrees_within CYCLES_MOST chip resets p words rest cycles boot carries in_cycle in_boot takes m eeprom rs reset reads in
     let is = replayed_is chip.step (words ++ rest) m rs in
     record { ends = rw is within.ends; cycles = rw is within.cycles }

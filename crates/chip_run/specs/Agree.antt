@@ -8,7 +8,7 @@ use Rattle.chip_tables.specs.declared.outside.Went.{Went}
 use Rattle.ladder_tree.specs.declared.project.Project.{Project}
 use Rattle.ladder_meaning.specs.Cycle.{Ended, start, history}
 use Rattle.ladder_meaning.specs.View.{sent_of}
-use Rattle.chip_meaning.specs.Chip.{Chip}
+use Rattle.chip_meaning.specs.Chip.{Chip, Resets}
 use Rattle.chip_meaning.specs.Shows.{Shows}
 use Rattle.chip_meaning.specs.Carries.{Carries, all_seen}
 use Rattle.chip_run.specs.declared.end.RunEnd.TheVariants as run
@@ -37,8 +37,8 @@ pub record Agrees {M : Type 0} (chip : Chip M) (p : Project) (flash : List ℕ) 
   pub cycles : AreCycles chip p (history p (start p (slice_index eeprom)) (all_seen p rs)) 0 (replayed chip.step flash m rs).cycles
 
 -- Over words that carry a project, within fewer cycles than a run may take, each run from reset agrees with the ladder.
-abbrev pub CarriedAgree : {M : Type 0} → Chip M → Type 0
-CarriedAgree {M} chip =
-    (p : Project) (words rest : List ℕ) (cycles boot : ℕ) → Carries chip p words cycles boot → cycles < CYCLES_MOST → boot < CYCLES_MOST →
-    TakesCycles chip (words ++ rest) → (m : M) (eeprom : List ℕ) (rs : List PinReading) → chip.is_reset eeprom m → AllByRecursion chip.reads rs →
+abbrev pub CarriedAgree : {M : Type 0} → Chip M → Resets M → Type 0
+CarriedAgree {M} chip resets =
+    (p : Project) (words rest : List ℕ) (cycles boot : ℕ) → Carries chip resets p words cycles boot → cycles < CYCLES_MOST → boot < CYCLES_MOST →
+    TakesCycles chip (words ++ rest) → (m : M) (eeprom : List ℕ) (rs : List PinReading) → resets eeprom m → AllByRecursion chip.reads rs →
     Agrees chip p (words ++ rest) m eeprom rs

@@ -1,5 +1,6 @@
 //! Laws of runs on chips, each the contract of a function that does nothing.
 
+ghost use Rattle.chip_tables.specs.declared.settings.Settings.{Settings};
 ghost use Rattle.chip_run.specs.Agree.{CarriedAgree};
 ghost use Rattle.chip_run.specs.ShownAgree.{ShownAgree};
 
@@ -8,7 +9,7 @@ use crate::machine::ChipMachine;
 /// Over words that carry a project, the run from reset over any readings of the chip takes each of them, and behind each the chip shows the ladder's state
 /// and sent the ladder's byte.
 pub fn carried_words_agree<M: ChipMachine>()
-    ensures { CarriedAgree M.chip }
+    ensures { (settings : Settings) → CarriedAgree M.chip (M.resets settings) }
 {}
 
 /// Where a chip shows a ladder's state, what is shown of the chip is what is shown of the ladder.

@@ -3,7 +3,8 @@
 ghost use Rattle.std.specs.Prelude.{◌≡◌};
 ghost use Rattle.runs.specs.Chip.{steps_over};
 ghost use Rattle.runs.specs.Run.{ask_of};
-ghost use Rattle.chip_meaning.specs.Chip.{Chip};
+ghost use Rattle.chip_meaning.specs.Chip.{Chip, Resets};
+ghost use Rattle.chip_tables.specs.declared.settings.Settings.{Settings};
 
 use chip_tables::{Env, PortBit, StepEnd};
 use runs::ask::Ask;
@@ -12,6 +13,9 @@ use runs::ask::Ask;
 pub trait ChipMachine {
     /// What its steps are, and what is to be seen of it between them.
     ghost chip: { Chip Self };
+
+    /// What it may be at reset, by the settings of its devices.
+    ghost resets: { Settings → Resets Self };
 
     /// What it asks for before its next step, with these words in its flash.
     fn asks(&self, flash: &[u16]) -> Ask
