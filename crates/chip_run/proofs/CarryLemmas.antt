@@ -1,5 +1,6 @@
 -- Words that carry a project never are late and never stuck.
-use Rattle.std.proofs.Common.{◌≡◌, ◌≢◌, ℕ, zero, suc, ◌+◌, ◌*◌, ◌<◌, ◌≤◌, Bool, true, false, List, [], ◌∷◌, ◌++◌, Option, Some, None, replicate, refl, sym, ap, subst, ◌∙◌, add-one, arith}
+use Rattle.std.proofs.Common.{◌≡◌, ◌≢◌, ℕ, zero, suc, ◌+◌, ◌*◌, ◌<◌, ◌≤◌, Bool, true, false, List, [], ◌∷◌, ◌++◌, Option, Some, None, length, replicate}
+use Rattle.std.proofs.Common.{refl, sym, ap, subst, ◌∙◌, add-one, arith}
 use Rattle.std.specs.Prelude.{nat_le, slice_index}
 use Rattle.std.specs.List.{AllByRecursion}
 use Rattle.std.specs.Option.{option_or}
@@ -135,7 +136,8 @@ module _ {M : Type 0} (chip : Chip M) (p : Project) (flash : List ℕ) (eeprom :
 
   -- the step of a state that does not ask for a reading is followed by the next moment's
   stepping : (turns more : ℕ) → AllCome turns more → (c : Moment M) (ready : Bool) (bs : List Bool) → Reached c → c.waits ≡ 0 → limit < suc turns + c.cost →
-      HasReady (turns + more) bs → onward step c ≡ within c 0 bs (step c.state ready no_reading) → answer (ask_of (steps_over chip.step flash) c.state) ≡ Some ready →
+      HasReady (turns + more) bs → onward step c ≡ within c 0 bs (step c.state ready no_reading) →
+      answer (ask_of (steps_over chip.step flash) c.state) ≡ Some ready →
       Comes (suc turns) more c
   stepping turns more come c ready bs r none enough left on is =
       let s = chip.step flash (without_reading ready) c.state in
@@ -158,7 +160,8 @@ module _ {M : Type 0} (chip : Chip M) (p : Project) (flash : List ℕ) (eeprom :
         came = came ∙ ap (λ b. comes_to chip.step flash limit turns s.state (c.cost + w.went.cycles) b) (sym (sent_more c.sent w.went.sent)) ∙ end.came;
       }
 
-  by_ask : (turns more : ℕ) → AllCome turns more → (c : Moment M) → Reached c → c.waits ≡ 0 → limit < suc turns + c.cost → HasReady (suc (turns + more)) c.answers →
+  by_ask : (turns more : ℕ) → AllCome turns more → (c : Moment M) → Reached c → c.waits ≡ 0 → limit < suc turns + c.cost →
+      HasReady (suc (turns + more)) c.answers →
       (a : Ask) → ask_of (steps_over chip.step flash) c.state ≡ a → Comes (suc turns) more c
   by_ask turns more come c r none enough left ask.Reading is =
       record {
@@ -168,7 +171,9 @@ module _ {M : Type 0} (chip : Chip M) (p : Project) (flash : List ℕ) (eeprom :
         readings = refl;
         taken = refl;
         waits = none;
-        answers = let e : suc (turns + more) + left.0 ≡ more + (suc turns + left.0) = omega arith in (suc turns + left.0, left.1 ∙ ap (λ i. replicate i true) e);
+        answers =
+            let e : suc (turns + more) + left.0 ≡ more + (suc turns + left.0) = omega arith in
+            (suc turns + left.0, left.1 ∙ ap (λ i. replicate i true) e);
         came = rw is refl;
       }
   by_ask turns more come c r none enough left ask.Nothing is =
@@ -176,7 +181,8 @@ module _ {M : Type 0} (chip : Chip M) (p : Project) (flash : List ℕ) (eeprom :
       (onward_is step c ask.Nothing c.readings c.answers is refl refl) (ap answer is)
   by_ask turns more come c r none enough left ask.Device is =
       let next = next_ready (turns + more) c.answers left in
-      stepping turns more come c true next.rest r none enough next.left (onward_is step c ask.Device c.readings (true ∷ next.rest) is refl next.splits) (ap answer is)
+      stepping turns more come c true next.rest r none enough next.left
+      (onward_is step c ask.Device c.readings (true ∷ next.rest) is refl next.splits) (ap answer is)
 
   -- where there are turns enough, the chip comes to the end of the cycle
   pub comes : (turns more : ℕ) → AllCome turns more
@@ -239,6 +245,7 @@ module _ {M : Type 0} (chip : Chip M) (p : Project) (flash : List ℕ) (eeprom :
   -- the run over the readings that are left
   pub record RunsOn (k : ℕ) (c : Moment M) (rs : List PinReading) : Type 0 where
     pub ends : (replay_from (cycle_of chip.step flash limit) k c.state rs).end ≡ run.Done
+    pub count : length (replay_from (cycle_of chip.step flash limit) k c.state rs).cycles ≡ length rs
     pub cycles : AreCycles chip p (history p (start p eeprom) (all_seen p all)) c.taken (replay_from (cycle_of chip.step flash limit) k c.state rs).cycles
 
   is_cycle : (k : ℕ) (c : Moment M) → Reached c → ask_of (steps_over chip.step flash) c.state ≡ ask.Reading → c.taken ≡ k + 1 →
@@ -256,7 +263,7 @@ module _ {M : Type 0} (chip : Chip M) (p : Project) (flash : List ℕ) (eeprom :
 
   pub runs_on : (rs : List PinReading) (k : ℕ) (c : Moment M) → Reached c → ask_of (steps_over chip.step flash) c.state ≡ ask.Reading → c.readings ≡ rs →
       HasReady (needed limit rs) c.answers → RunsOn k c rs
-  runs_on [] k c r asks left ready = record { ends = refl; cycles = tt }
+  runs_on [] k c r asks left ready = record { ends = refl; count = refl; cycles = tt }
   runs_on (q ∷ qs) k c r asks left ready =
       let end = cycled (needed limit qs) c q qs r asks left ready in
       let after = runs_on qs (k + 1) end.last end.reached end.asks end.readings end.answers in
@@ -264,6 +271,7 @@ module _ {M : Type 0} (chip : Chip M) (p : Project) (flash : List ℕ) (eeprom :
       (ap (λ x. outcome (k + 1) x.end) (sym end.came)) in
       record {
         ends = ap (λ x. x.end) more ∙ after.ends;
+        count = ap (λ x. length x.cycles) more ∙ ap suc after.count;
         cycles = rw more (is_cycle c.taken end.last end.reached end.asks end.taken, rw end.taken at after.cycles);
       }
 
@@ -276,6 +284,7 @@ booted limit step flash m rs last sent came = rw came refl
 -- the run with a limit agrees with the ladder
 pub record AgreesWithin {M : Type 0} (limit : ℕ) (chip : Chip M) (p : Project) (flash : List ℕ) (m : M) (eeprom : List ℕ) (rs : List PinReading) : Type 0 where
   pub ends : (replay_within limit chip.step flash m rs).end ≡ run.Done
+  pub count : length (replay_within limit chip.step flash m rs).cycles ≡ length rs
   pub cycles : AreCycles chip p (history p (start p (slice_index eeprom)) (all_seen p rs)) 0 (replay_within limit chip.step flash m rs).cycles
 
 pub agrees_within : {M : Type 0} (limit : ℕ) (chip : Chip M) (resets : Resets M) (p : Project) (words rest : List ℕ) (cycles boot : ℕ) →
@@ -291,14 +300,19 @@ agrees_within limit chip resets p words rest cycles boot carries in_cycle in_boo
     let none : enough ≡ enough + 0 = omega arith in
     let end = comes chip p flash (slice_index eeprom) cycles boot limit in_cycle in_boot takes rs first holds (limit + 1) (needed limit rs) first (0, refl) refl
     (omega arith) (0, ap (λ i. replicate i true) none) in
-    let after = runs_on chip p flash (slice_index eeprom) cycles boot limit in_cycle in_boot takes rs first holds rs 0 end.last end.reached end.asks end.readings
+    let after = runs_on chip p flash (slice_index eeprom) cycles boot limit in_cycle in_boot takes rs first holds rs 0 end.last end.reached end.asks
+    end.readings
     end.answers in
     let run_is = booted limit chip.step flash m rs end.last.state (sent_of end.last.sent) end.came in
-    record { ends = ap (λ x. x.end) run_is ∙ after.ends; cycles = rw run_is (rw end.taken at after.cycles) }
+    record {
+      ends = ap (λ x. x.end) run_is ∙ after.ends;
+      count = ap (λ x. length x.cycles) run_is ∙ after.count;
+      cycles = rw run_is (rw end.taken at after.cycles);
+    }
 
 -- so does the run with the limit of this project
 pub agrees : {M : Type 0} (chip : Chip M) (resets : Resets M) → CarriedAgree chip resets
 agrees chip resets p words rest cycles boot carries in_cycle in_boot takes m eeprom rs reset reads =
     let within = agrees_within CYCLES_MOST chip resets p words rest cycles boot carries in_cycle in_boot takes m eeprom rs reset reads in
     let is = replayed_is chip.step (words ++ rest) m rs in
-    record { ends = rw is within.ends; cycles = rw is within.cycles }
+    record { ends = rw is within.ends; count = rw is within.count; cycles = rw is within.cycles }

@@ -4,3 +4,4 @@ pub mod PinLemmas
 pub mod ViewLemmas
 pub mod CarryLemmas
 pub mod ShownLemmas
+pub mod AgreeLemmas

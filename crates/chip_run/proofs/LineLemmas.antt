@@ -14,7 +14,8 @@ use Rattle.chip_run.specs.Lines.{lines_of}
 use Rattle.chip_run.specs.Shown.{shown_of}
 
 -- the run has the limit of this project
-pub replayed_is : {M : Type 0} (step : Step M) (flash : List ℕ) (m : M) (rs : List PinReading) → replayed step flash m rs ≡ replay_within CYCLES_MOST step flash m rs
+pub replayed_is : {M : Type 0} (step : Step M) (flash : List ℕ) (m : M) (rs : List PinReading)
+    → replayed step flash m rs ≡ replay_within CYCLES_MOST step flash m rs
 unfolding replayed
 replayed_is step flash m rs = refl
 

@@ -1,5 +1,6 @@
 -- What is shown of a chip that shows a ladder's state.
-use Rattle.std.proofs.Common.{◌≡◌, ℕ, ◌+◌, ◌*◌, ◌<◌, Bool, false, ℤ, pos, negsuc, List, [], Option, Some, None, length, map, get_or, nat_eq, refl, sym, ap, ◌∙◌, arith}
+use Rattle.std.proofs.Common.{◌≡◌, ℕ, ◌+◌, ◌*◌, ◌<◌, Bool, false, ℤ, pos, negsuc, List, [], Option, Some, None, length, map, get_or}
+use Rattle.std.proofs.Common.{nat_eq, refl, sym, ap, ◌∙◌, arith}
 use Rattle.std.specs.Prelude.{IsSome, if◌then◌else◌}
 use Rattle.std.specs.Int.{int_wrap, w16, cast_signed}
 use Rattle.std.specs.Int.RustNames.{FitsSigned}

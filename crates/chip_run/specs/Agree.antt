@@ -1,5 +1,5 @@
 -- When a run shows what a ladder does.
-use Rattle.std.specs.Prelude.{◌≡◌, ℕ, ◌+◌, ◌<◌, List, [], ◌∷◌, ◌++◌, slice_get, slice_index, Some}
+use Rattle.std.specs.Prelude.{◌≡◌, ℕ, ◌+◌, ◌<◌, List, [], ◌∷◌, ◌++◌, length, slice_get, slice_index, Some}
 use Rattle.std.specs.List.{AllByRecursion}
 use Rattle.chip_tables.specs.declared.outside.Env.{Env}
 use Rattle.chip_tables.specs.declared.outside.PinReading.{PinReading}
@@ -34,6 +34,7 @@ AreCycles chip p ends k (d ∷ ds) = IsCycle chip p ends k d × AreCycles chip p
 -- the run takes every reading, and each of its cycles ends as the ladder's
 pub record Agrees {M : Type 0} (chip : Chip M) (p : Project) (flash : List ℕ) (m : M) (eeprom : List ℕ) (rs : List PinReading) : Type 0 where
   pub ends : (replayed chip.step flash m rs).end ≡ run.Done
+  pub count : length (replayed chip.step flash m rs).cycles ≡ length rs
   pub cycles : AreCycles chip p (history p (start p (slice_index eeprom)) (all_seen p rs)) 0 (replayed chip.step flash m rs).cycles
 
 -- Over words that carry a project, within fewer cycles than a run may take, each run from reset agrees with the ladder.

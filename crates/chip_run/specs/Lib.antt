@@ -5,3 +5,4 @@ pub mod Lines
 pub mod AtPins
 pub mod Agree
 pub mod ShownAgree
+pub mod LinesAgree

@@ -2,6 +2,7 @@
 
 ghost use Rattle.chip_tables.specs.declared.settings.Settings.{Settings};
 ghost use Rattle.chip_run.specs.Agree.{CarriedAgree};
+ghost use Rattle.chip_run.specs.LinesAgree.{LinesAgree};
 ghost use Rattle.chip_run.specs.ShownAgree.{ShownAgree};
 
 use crate::machine::ChipMachine;
@@ -15,4 +16,9 @@ pub fn carried_words_agree<M: ChipMachine>()
 /// Where a chip shows a ladder's state, what is shown of the chip is what is shown of the ladder.
 pub fn what_is_shown_agrees()
     ensures { ShownAgree }
+{}
+
+/// Over words that carry a project, the lines of the run from reset are those of the ladder over the trace.
+pub fn lines_agree<M: ChipMachine>()
+    ensures { LinesAgree M.chip }
 {}
