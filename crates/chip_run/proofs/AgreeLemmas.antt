@@ -16,7 +16,7 @@ use Rattle.ladder_meaning.specs.State.{Seen, State, seen}
 use Rattle.ladder_rules.specs.Assigned.{HavePlaces, name_bit}
 use Rattle.ladder_trace.specs.Simulated.{readings, eeprom_of, lines_from, view_with, duty_shown}
 use Rattle.mem_plan.specs.Seen.{pins_seen}
-use Rattle.chip_meaning.specs.Chip.{Chip}
+use Rattle.chip_meaning.specs.Chip.{Chip, Resets}
 use Rattle.chip_meaning.specs.Carries.{all_seen}
 use Rattle.chip_run.specs.Agree.{IsCycle, AreCycles}
 use Rattle.chip_run.specs.LinesAgree.{LinesAgree}
@@ -57,10 +57,10 @@ module _ {M : Type 0} (chip : Chip M) (p : Project) (places : HavePlaces PortBit
       ap (λ v. v ∷ map (λ x. shown_of p n (chip.view x.state) x.sent) ds) (cycle_shown k d c lt)
       ∙ ap (λ vs. view_with (duty_shown p) n c.end ∷ vs) rest ∙ ap (map (view_with (duty_shown p) n)) (sym left)
 
-pub lines_agree : {M : Type 0} (chip : Chip M) → LinesAgree chip
-lines_agree chip p words rest cycles boot carries in_cycle in_boot takes m eeprom rs trace f =
+pub lines_agree : {M : Type 0} (chip : Chip M) (resets : Resets M) → LinesAgree chip resets
+lines_agree chip resets p words rest cycles boot carries in_cycle in_boot takes m eeprom rs trace f =
     let n = names_of p.rungs in
-    let a = agrees chip p words rest cycles boot carries in_cycle in_boot takes m eeprom rs f.reset f.reads in
+    let a = agrees chip resets p words rest cycles boot carries in_cycle in_boot takes m eeprom rs f.reset f.reads in
     let all = all_seen p rs in
     let es = history p (start p (slice_index eeprom)) all in
     let r = replayed chip.step (words ++ rest) m rs in

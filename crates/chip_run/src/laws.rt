@@ -20,5 +20,5 @@ pub fn what_is_shown_agrees()
 
 /// Over words that carry a project, the lines of the run from reset are those of the ladder over the trace.
 pub fn lines_agree<M: ChipMachine>()
-    ensures { LinesAgree M.chip }
+    ensures { (settings : Settings) → LinesAgree M.chip (M.resets settings) }
 {}
