@@ -1,7 +1,7 @@
 -- The ATmega16 serves the theorem on chips.
 use Rattle.std.proofs.Common.{◌≡◌, ℕ, ◌+◌, ◌-◌, ◌<◌, ◌≤◌, Bool, true, false, List, length, map, Option, Some, None, refl, sym, ap, subst, ◌∙◌, arith}
 use Rattle.std.proofs.lemmas.Bool.Decides.{nat_tests}
-use Rattle.std.specs.Prelude.{nat_lt, if◌then◌else◌, slice_index, Contains, ◌↔◌}
+use Rattle.std.specs.Prelude.{nat_le, nat_lt, if◌then◌else◌, slice_index, Contains, ◌↔◌}
 use Rattle.chip_tables.proofs.PinLemmas.{carried}
 use Rattle.chip_tables.specs.Bits.{bit_of}
 use Rattle.chip_tables.specs.Memory.{ram_address}
@@ -50,8 +50,9 @@ module _ (board : Board) (o : Layout) (fits : IsAvrLayout board o) where
     cells : (i a : ℕ) → ram_address o.plan.target i ≡ Some a → (view_of m).cell a ≡ cell s.store a
     cells i a e =
         let at = sram_at i a (subst (λ (t : Target). ram_address t i ≡ Some a) fits.target e) in
-        let off : nat_lt a 32 ≡ false = grind (arith, nat_tests, at.0) in
-        ap (λ b. if b then slice_index m.regs a else slice_index m.sram (a - SRAM_FIRST)) off ∙ h.shows.ram a at.0 at.1
+        let from : nat_le 96 a ≡ true = grind (arith, nat_tests, at.0) in
+        let to : nat_lt a 1120 ≡ true = grind (arith, nat_tests, at.1) in
+        rw (from, to) (h.shows.ram a at.0 at.1)
 
     latches : (k : ℕ) → k < length o.outputs →
         (view_of m).latch (pin_at o.outputs k) ≡ bit_of (slice_index s.store.latches (pin_at o.outputs k).port) (pin_at o.outputs k).bit

@@ -1,20 +1,21 @@
 -- The ATmega16: what is seen of its written machine, and what it may hold at reset.
-use Rattle.std.specs.Prelude.{◌≡◌, ℕ, ◌-◌, ◌<◌, ◌≤◌, nat_lt, if◌then◌else◌, List, length, slice_index, All}
+use Rattle.std.specs.Prelude.{◌≡◌, ℕ, ◌<◌, ◌≤◌, List, length, slice_index, All}
 use Rattle.chip_tables.specs.Bits.{bit_of}
-use Rattle.chip_tables.specs.declared.mega16.TheConstants.{EEPROM_BYTES, IO_FIRST, SRAM_BYTES, SRAM_FIRST}
+use Rattle.chip_tables.specs.declared.mega16.TheConstants.{EEPROM_BYTES, IO_FIRST, SRAM_BYTES}
 use Rattle.chip_tables.specs.declared.settings.Settings.{Settings}
 use Rattle.ladder_tree.specs.declared.limits.TheConstants.{ANALOG_NUMBER}
 use Rattle.avr_devices.specs.Device.{port_of}
 use Rattle.avr_devices.specs.Part.{mega16}
+use Rattle.avr_mach.specs.Memory.{ram_byte}
 use Rattle.avr_mach.specs.Reset.{reset_state}
 use Rattle.avr_mach.specs.Step.{avr_step}
 use Rattle.avr_mach.specs.declared.state.AvrState.{AvrState}
 use Rattle.chip_meaning.specs.Chip.{Chip, View}
 
--- A data address below 20h is a register, and one from 60h on a byte of the SRAM. A pin is driven where its bit of DDRx is set, by its bit of PORTx.
+-- The bytes of RAM are those of the SRAM. A pin is driven where its bit of DDRx is set, by its bit of PORTx.
 abbrev pub view_of : AvrState → View
 view_of m = record {
-  cell = λ a. if nat_lt a IO_FIRST then slice_index m.regs a else slice_index m.sram (a - SRAM_FIRST);
+  cell = ram_byte m;
   latch = λ b. bit_of (port_of m.devices b.port).latch b.bit;
   drives = λ b. bit_of (port_of m.devices b.port).direction b.bit;
   eeprom = slice_index m.devices.eeprom.bytes;

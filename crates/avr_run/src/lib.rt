@@ -1,0 +1,4 @@
+//! The ATmega16 as the machine that runs the words of ladders.
+#![tactic(auto)]
+
+pub mod machine;
