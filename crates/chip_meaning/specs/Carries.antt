@@ -54,4 +54,5 @@ abbrev pub Carries : {M : Type 0} → Chip M → Resets M → Project → List �
 Carries {M} chip resets p words cycles boot =
     (rest : List ℕ) (m : M) (eeprom : List ℕ) (readings : List PinReading) (answers : List Bool) → resets eeprom m →
     AllByRecursion chip.reads readings → (n : ℕ) (c : Moment M) →
-    moment (steps_over chip.step (words ++ rest)) n (first_moment m readings answers) ≡ Some c → Holds chip (words ++ rest) p (slice_index eeprom) readings cycles boot c
+    moment (steps_over chip.step (words ++ rest)) n (first_moment m readings answers) ≡ Some c →
+    Holds chip (words ++ rest) p (slice_index eeprom) readings cycles boot c
