@@ -73,7 +73,7 @@ same_pin p = and_from (p.port == p.port) (p.bit == p.bit) (grind (arith, nat_tes
 wired_at : (target : Target) (w : ℕ) (p : CellBit) (x : WirePlace target w) → wire_of target w ≡ Some p → x.place ≡ p
 wired_at target w p x e = let f : Some x.place ≡ Some p = sym x.is ∙ e in cc
 
-is_wire_scratch : (target : Target) → IsChip target → (w : ℕ) → w < 48 → (x : WirePlace target w) → is_scratch target x.place.address ≡ true
+pub is_wire_scratch : (target : Target) → IsChip target → (w : ℕ) → w < 48 → (x : WirePlace target w) → is_scratch target x.place.address ≡ true
 is_wire_scratch F628 c w h x = ap (λ p. is_scratch F628 p.address) (wired_at F628 w (pic_wire w) x (wire_found w (pic_wire w) h)) ∙ pic_scratch_cell w h
 is_wire_scratch F877 c w h x = ap (λ p. is_scratch F877 p.address) (wired_at F877 w (pic_wire w) x (wire_found w (pic_wire w) h)) ∙ pic_scratch_cell w h
 is_wire_scratch Mega16 c w h x = ap (λ p. is_scratch Mega16 p.address) (wired_at Mega16 w (avr_wire w) x (wire_found w (avr_wire w) h)) ∙ avr_scratch_cell w h

@@ -20,14 +20,14 @@ use Rattle.byte_lower.specs.declared.layout.Layout.{Layout}
 abbrev from_on : ℕ → ℕ → (ℕ → Option ℕ) → ℕ → Option ℕ
 from_on first many rest i = if nat_lt i many then Some (first + i) else rest (i - many)
 
-abbrev InOrIn : ℕ → ℕ → (ℕ → Type 0) → ℕ → Type 0
+abbrev pub InOrIn : ℕ → ℕ → (ℕ → Type 0) → ℕ → Type 0
 InOrIn first many In a = ((first ≤ a) × (a < first + many)) ⊎ In a
 
 -- a byte that has an address
-record ByteIn (place : ℕ → Option ℕ) (In : ℕ → Type 0) (i : ℕ) : Type 0 where
-  address : ℕ
-  is : place i ≡ Some address
-  within : In address
+pub record ByteIn (place : ℕ → Option ℕ) (In : ℕ → Type 0) (i : ℕ) : Type 0 where
+  pub address : ℕ
+  pub is : place i ≡ Some address
+  pub within : In address
 
 byte_in : (first many : ℕ) (rest : ℕ → Option ℕ) (In : ℕ → Type 0) (i : ℕ) → (many ≤ i → ByteIn rest In (i - many)) → ByteIn (from_on first many rest)
     (InOrIn first many In) i
@@ -45,7 +45,7 @@ byte_in first many rest In i behind = by (nat_lt i many) refl
 abbrev none : ℕ → Option ℕ
 none i = None
 
-abbrev IsIn : Target → ℕ → Type 0
+abbrev pub IsIn : Target → ℕ → Type 0
 IsIn F628 = InOrIn 0x20 80 (InOrIn 0xa0 80 (InOrIn 0x120 48 (λ a. ⊥)))
 IsIn F877 = InOrIn 0x20 80 (InOrIn 0xa0 80 (InOrIn 0x110 96 (InOrIn 0x190 96 (λ a. ⊥))))
 IsIn Mega16 = InOrIn 0x60 960 (λ a. ⊥)
@@ -55,7 +55,7 @@ IsIn AnsiC = λ a. ⊥
 too_far : (i n : ℕ) → i < n → n ≤ i → ⊥
 too_far i n h k = omega (arith, h, k)
 
-found_byte : (target : Target) → IsChip target → (i : ℕ) → i < ram_size target → ByteIn (ram_address target) (IsIn target) i
+pub found_byte : (target : Target) → IsChip target → (i : ℕ) → i < ram_size target → ByteIn (ram_address target) (IsIn target) i
 found_byte F628 c i h =
     let lt : i < 208 = h in
     byte_in 0x20 80 (from_on 0xa0 80 (from_on 0x120 48 none)) (InOrIn 0xa0 80 (InOrIn 0x120 48 (λ a. ⊥))) i
@@ -140,8 +140,8 @@ listed Interp a h = absurd h
 listed AnsiC a h = absurd h
 
 pub record RamByte (target : Target) (i : ℕ) : Type 0 where
-  address : ℕ
-  is : ram_address target i ≡ Some address
+  pub address : ℕ
+  pub is : ram_address target i ≡ Some address
   listed : IsListed target address
 
 ram_byte : (target : Target) → IsChip target → (i : ℕ) → i < ram_size target → RamByte target i

@@ -6,6 +6,7 @@ pub mod Whole
 pub mod Placed
 pub mod Outfit
 pub mod Samples
+pub mod Listed
 -- the list of each operation
 pub mod Lists
 -- what the code's own steps ask of each other

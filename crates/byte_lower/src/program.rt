@@ -4,8 +4,10 @@ ghost use Rattle.std.specs.Prelude.{◌≡◌, ◌≤◌, ◌<◌, ◌^◌, ◌+
 ghost use Rattle.std.specs.List.{list_all};
 ghost use Rattle.int_code.specs.WellFormed.{IsInRange};
 ghost use Rattle.byte_code.specs.Admitted.{admits};
+ghost use Rattle.byte_code.specs.Lowered.{IsListed};
 ghost use Rattle.byte_lower.specs.Outfit.{outfit_of};
 ghost use Rattle.byte_lower.specs.Layout.{room_of};
+ghost use Rattle.byte_lower.specs.Listed.{operations, starts_in};
 ghost use Rattle.byte_lower.specs.Whole.{HasLabels};
 ghost use Rattle.byte_lower.specs.Emitted.{Goes};
 ghost use Rattle.byte_lower.specs.Lists.{is_built, labels_behind, lists_of, top_of};
@@ -167,6 +169,7 @@ pub fn lower_bytes(
     ensures code { IfOk result (λ code. code ≡ code_of layout.now program.now) }
     ensures runs { IfOk result (λ code. Carries layout.now program.now code) }
     ensures whole { IfOk result (λ code. HasLabels code) }
+    ensures listed { IfOk result (λ code. IsListed layout.now.plan.target (starts_in program.now.starts) [] (operations layout.now program.now) code) }
     ensures admitted { IfOk result (λ code. list_all (λ p. admits (outfit_of layout.now) p.prim) code ≡ true) }
 {
     match emit_program(alloc, layout, program) {

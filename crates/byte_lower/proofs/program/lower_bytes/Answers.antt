@@ -1,12 +1,15 @@
-use Rattle.std.proofs.Common.{◌≡◌, List, true, sym, subst}
+use Rattle.std.proofs.Common.{◌≡◌, List, [], true, sym, subst}
 use Rattle.std.specs.List.{list_all}
 use Rattle.byte_code.specs.Admitted.{admits}
+use Rattle.byte_code.specs.Lowered.{IsListed}
 use Rattle.byte_code.specs.declared.prim.Paced.{Paced}
 use Rattle.byte_lower.proofs.AdmitLemmas.{admitted}
 use Rattle.byte_lower.specs.Outfit.{outfit_of}
 use Rattle.byte_lower.proofs.CycleLemmas.{carries}
 use Rattle.byte_lower.proofs.NameLemmas.{whole}
+use Rattle.byte_lower.specs.Listed.{operations, starts_in}
 use Rattle.byte_lower.specs.Whole.{HasLabels}
+use Rattle.byte_lower.proofs.ListedLemmas.{listed}
 use Rattle.byte_lower.specs.Code.{Carries}
 use Rattle.byte_lower.proofs.program.lower_bytes.Goals as goal
 
@@ -22,3 +25,8 @@ pub returns-in-Ok-clause-admitted : goal.returns-in-Ok-clause-admitted
 returns-in-Ok-clause-admitted c =
     subst (λ (code : List Paced). list_all (λ p. admits (outfit_of c.args.layout.now) p.prim) code ≡ true) (sym c.in-Ok.ensures)
     (admitted c.args.layout.now c.args.layout.now.chip c.args.layout.now.plan.ram_fits c.args.program.now c.requires)
+
+pub returns-in-Ok-clause-listed : goal.returns-in-Ok-clause-listed
+returns-in-Ok-clause-listed c =
+    subst (λ (code : List Paced). IsListed c.args.layout.now.plan.target (starts_in c.args.program.now.starts) [] (operations c.args.layout.now c.args.program.now) code)
+    (sym c.in-Ok.ensures) (listed c.args.layout.now c.args.layout.now.chip c.args.layout.now.plan.ram_fits c.args.program.now c.requires)
