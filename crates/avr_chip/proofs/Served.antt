@@ -6,7 +6,7 @@ use Rattle.chip_tables.proofs.PinLemmas.{carried}
 use Rattle.chip_tables.specs.Bits.{bit_of}
 use Rattle.chip_tables.specs.Memory.{ram_address}
 use Rattle.chip_tables.specs.Pins.{port_bit_at}
-use Rattle.chip_tables.specs.Scratch.{avr_scratch}
+use Rattle.chip_tables.specs.Scratch.{avr_scratch, scratch_of}
 use Rattle.chip_tables.specs.declared.mega16.TheConstants.{IO_FIRST, SRAM_FIRST}
 use Rattle.chip_tables.specs.declared.pins.PortBit.{PortBit}
 use Rattle.chip_tables.specs.declared.target.Target.{Target}
@@ -74,7 +74,15 @@ module _ (board : Board) (o : Layout) (fits : IsAvrLayout board o) where
       let has = has_cells r.regs r.sram r.regs_bytes r.sram_bytes in
       record {
         bytes = (fresh Mega16 cells eeprom avr_scratch).bytes;
-        fresh = record { place = refl; closed = refl; target = sym fits.target; shown = refl; cells = has.all; latches = refl };
+        fresh = record {
+          place = refl;
+          closed = refl;
+          target = sym fits.target;
+          scratch = ap scratch_of fits.target;
+          shown = refl;
+          cells = has.all;
+          latches = refl;
+        };
         stopped = refl;
         kept = refl;
         stands = λ places first. subst (λ (x : AvrState). StandsAt board places x (fresh Mega16 cells eeprom avr_scratch).bytes) (sym r.is)

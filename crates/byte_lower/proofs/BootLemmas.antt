@@ -1,6 +1,6 @@
 -- From a fresh machine to the first cycle poll.
 use Rattle.std.proofs.Common.{◌≡◌, ℕ, zero, suc, ◌+◌, ◌-◌, ◌*◌, ◌<◌, ◌≤◌, inl, inr, Bool, true, false, List, [], ◌∷◌, ◌++◌, drop, length, map, Option, Some, None, ℤ, pos, refl, sym, ap, subst, ◌∙◌, arith, length-set, slice_index, slice_set}
-use Rattle.std.specs.Prelude.{◌⊎◌, slice_get, slice_index_or, if◌then◌else◌, nat_eq, nat_le, All}
+use Rattle.std.specs.Prelude.{◌⊎◌, unwrap_or, slice_get, slice_index_or, if◌then◌else◌, nat_eq, nat_le, All}
 use Rattle.std.specs.Ordering.{int_eq}
 use Rattle.std.proofs.lemmas.Bool.{cases_eq}
 use Rattle.std.proofs.lemmas.Bool.Decides.{nat_tests, Decides-int_eq}
@@ -9,6 +9,7 @@ use Rattle.std.proofs.lemmas.List.Elements.{All-head, All-tail}
 use Rattle.std.proofs.lemmas.Nat.Bits.{bit_at-zero}
 use Rattle.chip_tables.specs.Bits.{bit_of}
 use Rattle.chip_tables.specs.Memory.{ram_size, ram_address}
+use Rattle.chip_tables.specs.Scratch.{pic_scratch}
 use Rattle.mem_plan.specs.Needs.{ram_need}
 use Rattle.mem_plan.specs.Places.{IsChip}
 use Rattle.mem_plan.specs.Seen.{is_high}
@@ -27,7 +28,7 @@ use Rattle.byte_lower.proofs.PlaceLemmas.{Listed, kept_listed, low_listed, high_
 use Rattle.byte_lower.proofs.RouteLemmas.{along, Reaches, arrive, go, here, behind}
 use Rattle.byte_lower.proofs.StoreLemmas.{Apart, Good, any_flag, word_written, number_read, are_same, are_apart}
 use Rattle.byte_lower.specs.Code.{booted, polling, start_values, CanPlace, IsFresh, IsStart}
-use Rattle.byte_lower.specs.Layout.{word_cell, bit_cell, pin_at, HasPins}
+use Rattle.byte_lower.specs.Layout.{own_cells, word_cell, bit_cell, pin_at, HasPins}
 use Rattle.byte_lower.specs.Lists.{number, move}
 use Rattle.byte_lower.specs.Stands.{IsWordOf, Stands, seen}
 use Rattle.byte_lower.specs.declared.layout.Layout.{Layout}
@@ -48,6 +49,7 @@ zero_stays xs a b h = by (cases_eq b a)
 -- the first so many cells of the list are 0, and little else is changed
 record Wiped (d e : Store) (many : ℕ) : Type 0 where
   target : e.target ≡ d.target
+  scratch : e.scratch ≡ d.scratch
   latches : e.latches ≡ d.latches
   shown : e.converting ≡ d.converting
   eeprom : e.eeprom ≡ d.eeprom
@@ -57,6 +59,7 @@ record Wiped (d e : Store) (many : ℕ) : Type 0 where
 wipe_on : (d e : Store) (k : ℕ) (o : Option ℕ) → ram_address e.target k ≡ o → Wiped d e k → Wiped d (cell_cleared o e) (suc k)
 wipe_on d e k None is w = record {
   target = w.target;
+  scratch = w.scratch;
   latches = w.latches;
   shown = w.shown;
   eeprom = w.eeprom;
@@ -70,6 +73,7 @@ wipe_on d e k None is w = record {
     by i a lt h (inr other) = w.zeros i a (omega (arith, lt, other)) h
 wipe_on d e k (Some x) is w = record {
   target = w.target;
+  scratch = w.scratch;
   latches = w.latches;
   shown = w.shown;
   eeprom = w.eeprom;
@@ -85,7 +89,7 @@ wipe_on d e k (Some x) is w = record {
     by i a lt h (inr other) = zero_stays e.cells x a (w.zeros i a (omega (arith, lt, other)) h)
 
 wipe : (d : Store) (many : ℕ) → Wiped d (cleared many d) many
-wipe d zero = record { target = refl; latches = refl; shown = refl; eeprom = refl; cells = refl; zeros = λ i a lt h. absurd (omega (arith, lt)) }
+wipe d zero = record { target = refl; scratch = refl; latches = refl; shown = refl; eeprom = refl; cells = refl; zeros = λ i a lt h. absurd (omega (arith, lt)) }
 wipe d (suc k) = wipe_on d (cleared k d) k (ram_address (cleared k d).target k) refl (wipe d k)
 
 no_bit : (b : ℕ) → bit_of 0 b ≡ false
@@ -279,14 +283,15 @@ module _ (o : Layout) (c : IsChip o.plan.target) (room : ram_need o.plan.sizes �
   first_outputs e k h = ap (λ xs. bit_of (slice_index xs (pin_at o.outputs k).port) (pin_at o.outputs k).bit) (wiped.latches ∙ e) ∙ none_high
       (pin_at o.outputs k).port (pin_at o.outputs k).bit
 
-  first_good : length d.cells ≡ 1120 → d.latches ≡ 0 ∷ 0 ∷ 0 ∷ 0 ∷ 0 ∷ [] → d.converting ≡ false → Good o (seen o started_store.reading) started_store
+  first_good : length d.cells ≡ 1120 → d.latches ≡ 0 ∷ 0 ∷ 0 ∷ 0 ∷ 0 ∷ [] → d.converting ≡ false → d.scratch ≡ own_cells o.plan.target → Good o (seen o started_store.reading) started_store
       (first_store o started_store (slice_index d.eeprom))
-  first_good cells latches shown = record {
+  first_good cells latches shown own = record {
     stands = first_stands;
     levels = seen_levels o started_store.reading.levels;
     cells = length-set (cleared (ram_need o.plan.sizes) d).cells (cleared (ram_need o.plan.sizes) d).scratch.pending_low 0 ∙ wiped.cells ∙ cells;
     latches = ap length (wiped.latches ∙ latches);
     shown = wiped.shown ∙ shown;
+    scratch = wiped.scratch ∙ own;
   }
 
 pub booted_start : (code rest : List Paced) (o : Layout) (p : IntProgram) (can : CanPlace o p) (c : IsChip o.plan.target)
@@ -304,7 +309,8 @@ booted_start code rest o p can c room apart s fresh whole =
       is_at = ap suc fresh.place;
       closed = fresh.closed;
       started = refl;
-      good = first_good o c room s.store fresh.target fresh.cells fresh.latches fresh.shown;
+      good = first_good o c room s.store fresh.target fresh.cells fresh.latches fresh.shown
+          (sym (ap (λ x. unwrap_or x pic_scratch) fresh.scratch));
       bits = first_bits o c room s.store fresh.target;
       outputs = first_outputs o c room s.store fresh.target fresh.latches;
       devices = refl;

@@ -32,6 +32,7 @@ use Rattle.byte_lower.proofs.RouteLemmas.{none_before, once, none_behind, along,
 use Rattle.byte_lower.proofs.StoreLemmas.{Good, any_flag}
 use Rattle.byte_lower.proofs.WalkLemmas.{Marks, other_label, walk}
 use Rattle.byte_lower.specs.Code.{booted, polling, start_values, code_of, CanPlace, store_behind, RunsAs, Carries}
+use Rattle.byte_lower.specs.Layout.{own_cells}
 use Rattle.byte_lower.specs.Lists.{paced, lists_of}
 use Rattle.byte_lower.specs.Stands.{Stands, seen}
 use Rattle.byte_lower.specs.declared.layout.Layout.{Layout}
@@ -160,6 +161,7 @@ module _ (o : Layout) (p : IntProgram) (can : CanPlace o p) (c : IsChip o.plan.t
       cells : length s.store.cells ≡ 1120
       latches : length s.store.latches ≡ 5
       shown : s.store.converting ≡ false
+      scratch : s.store.scratch ≡ own_cells o.plan.target
 
     abbrev silent : ℕ → List ℕ
     silent k = []
@@ -212,6 +214,7 @@ module _ (o : Layout) (p : IntProgram) (can : CanPlace o p) (c : IsChip o.plan.t
                 cells = h.cells;
                 latches = h.latches;
                 shown = h.shown;
+                scratch = h.scratch;
               };
               stands_at = inl (refl, ap suc h.is_at);
             };
@@ -231,6 +234,7 @@ module _ (o : Layout) (p : IntProgram) (can : CanPlace o p) (c : IsChip o.plan.t
             cells = g.2.cells;
             latches = g.2.latches;
             shown = g.2.shown;
+            scratch = g.2.scratch;
           })))
 
       few_by : (i turns : ℕ) (b d : Bool) → nat_le loop i ≡ b → nat_le i (suc loop) ≡ d → (loop ≤ i → turns ≡ 1) → times i (taken.place ∷ walked.begun) + times
@@ -309,6 +313,7 @@ module _ (o : Layout) (p : IntProgram) (can : CanPlace o p) (c : IsChip o.plan.t
                 cells = good.cells;
                 latches = good.latches;
                 shown = good.shown;
+                scratch = good.scratch;
               }))
               answers,
         );

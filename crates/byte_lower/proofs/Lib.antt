@@ -1,5 +1,6 @@
 pub mod BitLemmas
 pub mod WordLemmas
+pub mod TableLemmas
 pub mod RouteLemmas
 pub mod StoreLemmas
 pub mod GoLemmas

@@ -3,7 +3,7 @@ use Rattle.std.proofs.Common.{◌≡◌, ◌≢◌, ℕ, ◌+◌, ◌-◌, ◌*�
 use Rattle.std.specs.Prelude.{◌⊎◌, ◌==◌, nat_lt, if◌then◌else◌, unwrap_or}
 use Rattle.std.proofs.lemmas.Bool.Decides.{nat_tests}
 use Rattle.chip_tables.specs.Memory.{ram_size, ram_address}
-use Rattle.chip_tables.specs.Scratch.{at_bit, avr_wire, pic_wire, wire_of}
+use Rattle.chip_tables.specs.Scratch.{at_bit, avr_scratch, avr_wire, pic_scratch, pic_wire, wire_of}
 use Rattle.chip_tables.specs.declared.scratch.CellBit.{CellBit}
 use Rattle.chip_tables.specs.declared.scratch.TheConstants.{WIRES}
 use Rattle.chip_tables.specs.declared.target.Target.{Target}
@@ -11,8 +11,9 @@ use Rattle.chip_tables.specs.declared.target.Target.TheVariants.{F628, F877, Meg
 use Rattle.mem_plan.specs.Needs.{ram_need}
 use Rattle.mem_plan.specs.Places.{IsChip, low_byte, high_byte}
 use Rattle.mem_plan.proofs.ApartLemmas.{apart}
+use Rattle.byte_routines.specs.Calls.{Off, IsOther}
 use Rattle.byte_lower.proofs.StoreLemmas.{Apart}
-use Rattle.byte_lower.specs.Layout.{word_cell, kept_cell, wire_cell, bit_cell}
+use Rattle.byte_lower.specs.Layout.{own_cells, word_cell, kept_cell, wire_cell, bit_cell}
 use Rattle.byte_lower.specs.declared.layout.Layout.{Layout}
 
 -- the addresses of bytes by their numbers, so many of them from the first on and the others behind them
@@ -80,22 +81,60 @@ IsWireCell Mega16 a = a < 0x20
 IsWireCell Interp a = ⊥
 IsWireCell AnsiC a = ⊥
 
+-- addresses that are none of the routines' cells
+beside : (a c : ℕ) → (c < a) ⊎ (a + 1 < c) → Off c a
+beside a c (inl h) = (λ e. omega (arith, e, h), λ e. omega (arith, e, h))
+beside a c (inr h) = (λ e. omega (arith, e, h), λ e. omega (arith, e, h))
+
+pic_other : (a : ℕ) → (a < 0x76) ⊎ (0x7e ≤ a) → IsOther pic_scratch a
+pic_other a (inl h) = record {
+  left = beside 0x76 a (inl h);
+  right = beside 0x78 a (inl (omega (arith, h)));
+  outcome = beside 0x7a a (inl (omega (arith, h)));
+  count = λ e. omega (arith, e, h);
+  sign = λ e. omega (arith, e, h);
+}
+pic_other a (inr h) = record {
+  left = beside 0x76 a (inr (omega (arith, h)));
+  right = beside 0x78 a (inr (omega (arith, h)));
+  outcome = beside 0x7a a (inr (omega (arith, h)));
+  count = λ e. omega (arith, e, h);
+  sign = λ e. omega (arith, e, h);
+}
+
+avr_other : (a : ℕ) → (1 ≤ a) × (a < 21) ⊎ (32 ≤ a) → IsOther avr_scratch a
+avr_other a (inl h) = record {
+  left = beside 24 a (inl (omega (arith, h.1)));
+  right = beside 22 a (inl (omega (arith, h.1)));
+  outcome = beside 30 a (inl (omega (arith, h.1)));
+  count = λ e. omega (arith, e, h.1);
+  sign = λ e. omega (arith, e, h.0);
+}
+avr_other a (inr h) = record {
+  left = beside 24 a (inr (omega (arith, h)));
+  right = beside 22 a (inr (omega (arith, h)));
+  outcome = beside 30 a (inr (omega (arith, h)));
+  count = λ e. omega (arith, e, h);
+  sign = λ e. omega (arith, e, h);
+}
+
 -- an address of a chip's list
 pub record IsListed (target : Target) (a : ℕ) : Type 0 where
   low : a < 1119
   off : IsWireCell target a → ⊥
+  other : IsOther (own_cells target) a
 
 listed : (target : Target) (a : ℕ) → IsIn target a → IsListed target a
-listed F628 a (inl h) = record { low = omega (arith, h.1); off = λ w. omega (arith, h.1, w.0) }
-listed F628 a (inr (inl h)) = record { low = omega (arith, h.1); off = λ w. omega (arith, h.0, w.1) }
-listed F628 a (inr (inr (inl h))) = record { low = omega (arith, h.1); off = λ w. omega (arith, h.0, w.1) }
+listed F628 a (inl h) = record { low = omega (arith, h.1); off = λ w. omega (arith, h.1, w.0); other = pic_other a (inl (omega (arith, h.1))) }
+listed F628 a (inr (inl h)) = record { low = omega (arith, h.1); off = λ w. omega (arith, h.0, w.1); other = pic_other a (inr (omega (arith, h.0))) }
+listed F628 a (inr (inr (inl h))) = record { low = omega (arith, h.1); off = λ w. omega (arith, h.0, w.1); other = pic_other a (inr (omega (arith, h.0))) }
 listed F628 a (inr (inr (inr h))) = absurd h
-listed F877 a (inl h) = record { low = omega (arith, h.1); off = λ w. omega (arith, h.1, w.0) }
-listed F877 a (inr (inl h)) = record { low = omega (arith, h.1); off = λ w. omega (arith, h.0, w.1) }
-listed F877 a (inr (inr (inl h))) = record { low = omega (arith, h.1); off = λ w. omega (arith, h.0, w.1) }
-listed F877 a (inr (inr (inr (inl h)))) = record { low = omega (arith, h.1); off = λ w. omega (arith, h.0, w.1) }
+listed F877 a (inl h) = record { low = omega (arith, h.1); off = λ w. omega (arith, h.1, w.0); other = pic_other a (inl (omega (arith, h.1))) }
+listed F877 a (inr (inl h)) = record { low = omega (arith, h.1); off = λ w. omega (arith, h.0, w.1); other = pic_other a (inr (omega (arith, h.0))) }
+listed F877 a (inr (inr (inl h))) = record { low = omega (arith, h.1); off = λ w. omega (arith, h.0, w.1); other = pic_other a (inr (omega (arith, h.0))) }
+listed F877 a (inr (inr (inr (inl h)))) = record { low = omega (arith, h.1); off = λ w. omega (arith, h.0, w.1); other = pic_other a (inr (omega (arith, h.0))) }
 listed F877 a (inr (inr (inr (inr h)))) = absurd h
-listed Mega16 a (inl h) = record { low = omega (arith, h.1); off = λ w. omega (arith, h.0, w) }
+listed Mega16 a (inl h) = record { low = omega (arith, h.1); off = λ w. omega (arith, h.0, w); other = avr_other a (inr (omega (arith, h.0))) }
 listed Mega16 a (inr h) = absurd h
 listed Interp a h = absurd h
 listed AnsiC a h = absurd h
@@ -116,6 +155,7 @@ pub record WirePlace (target : Target) (w : ℕ) : Type 0 where
   cell : IsWireCell target place.address
   bit : place.bit < 8
   low : place.address < 1120
+  other : IsOther (own_cells target) place.address
 
 pic_place : (w : ℕ) → w < 48 → (0x70 ≤ (pic_wire w).address) × ((pic_wire w).address < 0x76)
 pic_place w h = (omega arith, omega (arith, h))
@@ -148,12 +188,38 @@ avr_place w h (power e f) = (subst (λ p. p.address < 0x20) (sym f) (omega arith
 avr_place w h (alone e g f) = (subst (λ p. p.address < 0x20) (sym f) (omega (arith, g)), subst (λ p. p.bit < 8) (sym f) (omega arith))
 avr_place w h (shared e f) = (subst (λ p. p.address < 0x20) (sym f) (omega (arith, e, h)), subst (λ p. p.bit < 8) (sym f) (omega arith))
 
+avr_within : (w : ℕ) → w < 48 → AvrWire w → (1 ≤ (avr_wire w).address) × ((avr_wire w).address < 21)
+avr_within w h (power e f) = subst (λ p. (1 ≤ p.address) × (p.address < 21)) (sym f) (omega arith, omega arith)
+avr_within w h (alone e g f) = subst (λ p. (1 ≤ p.address) × (p.address < 21)) (sym f) (omega arith, omega (arith, g))
+avr_within w h (shared e f) = subst (λ p. (1 ≤ p.address) × (p.address < 21)) (sym f) (omega arith, omega (arith, e, h))
+
 wire_place : (target : Target) → IsChip target → (w : ℕ) → w < 48 → WirePlace target w
-wire_place F628 c w h = record { place = pic_wire w; is = wire_found w (pic_wire w) h; cell = pic_place w h; bit = omega arith; low = omega (arith, h) }
-wire_place F877 c w h = record { place = pic_wire w; is = wire_found w (pic_wire w) h; cell = pic_place w h; bit = omega arith; low = omega (arith, h) }
+wire_place F628 c w h = record {
+  place = pic_wire w;
+  is = wire_found w (pic_wire w) h;
+  cell = pic_place w h;
+  bit = omega arith;
+  low = omega (arith, h);
+  other = pic_other (pic_wire w).address (inl (pic_place w h).1);
+}
+wire_place F877 c w h = record {
+  place = pic_wire w;
+  is = wire_found w (pic_wire w) h;
+  cell = pic_place w h;
+  bit = omega arith;
+  low = omega (arith, h);
+  other = pic_other (pic_wire w).address (inl (pic_place w h).1);
+}
 wire_place Mega16 c w h =
     let p = avr_place w h (avr_view w) in
-    record { place = avr_wire w; is = wire_found w (avr_wire w) h; cell = p.0; bit = p.1; low = omega (arith, p.0) }
+    record {
+      place = avr_wire w;
+      is = wire_found w (avr_wire w) h;
+      cell = p.0;
+      bit = p.1;
+      low = omega (arith, p.0);
+      other = avr_other (avr_wire w).address (inl (avr_within w h (avr_view w)));
+    }
 wire_place Interp c w h = absurd (cc)
 wire_place AnsiC c w h = absurd (cc)
 
@@ -270,6 +336,10 @@ module _ (o : Layout) (c : IsChip o.plan.target) (room : ram_need o.plan.sizes �
     (λ f. w.high_listed.off (subst (IsWireCell o.plan.target) (sym (ap (λ p. p.address) e) ∙ f) x.cell)),
   )
 
+  other_by : (k : ℕ) → BitView k → IsOther (own_cells o.plan.target) (bit_cell o k).address
+  other_by k (kept l b e) = subst (λ p. IsOther (own_cells o.plan.target) p.address) (sym e) b.listed.other
+  other_by k (wired l x e) = subst (λ p. IsOther (own_cells o.plan.target) p.address) (sym e) x.other
+
   pub places_apart : Apart o
   places_apart =
       let cells = (apart o.plan.target o.plan.sizes.variables).cells in
@@ -286,6 +356,8 @@ module _ (o : Layout) (c : IsChip o.plan.target) (room : ram_need o.plan.sizes �
               (λ e. ne (cells u v (word_cell o v + 1) (inr (x.high ∙ ap Some e)) (inr y.high))),
             );
         mixed = λ k v g h. mixed_by k v (bit_view k g) h (word_view v h);
+        bit_other = λ k h. other_by k (bit_view k h);
+        word_other = λ v h. let w = word_view v h in (w.low_listed.other, w.high_listed.other);
       }
 
   -- where the plan has kept bits and words

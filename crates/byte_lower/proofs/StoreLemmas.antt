@@ -23,8 +23,9 @@ use Rattle.byte_code.specs.declared.store.Store.{Store}
 use Rattle.std.specs.Prelude.{Option}
 use Rattle.byte_lower.proofs.BitLemmas.{bit_put, bit_kept, in_byte_is}
 use Rattle.byte_routines.proofs.CellLemmas.{word_put, word_put_other, words_kept, word_kept}
+use Rattle.byte_routines.specs.Calls.{IsOther}
 use Rattle.byte_lower.proofs.WordLemmas.{literal_word, word_small}
-use Rattle.byte_lower.specs.Layout.{word_cell, bit_cell, pin_at, dest_of, source_of, room_of, HasPins}
+use Rattle.byte_lower.specs.Layout.{own_cells, word_cell, bit_cell, pin_at, dest_of, source_of, room_of, HasPins}
 use Rattle.byte_lower.specs.Lists.{number, word_in}
 use Rattle.byte_lower.specs.Stands.{IsWordOf, Stands}
 use Rattle.byte_lower.specs.declared.layout.Layout.{Layout}
@@ -39,6 +40,8 @@ pub record Apart (o : Layout) : Type 0 where
       (word_cell o u ≢ word_cell o v) × (word_cell o u ≢ word_cell o v + 1) × (word_cell o u + 1 ≢ word_cell o v) × (word_cell o u + 1 ≢ word_cell o v + 1)
   pub mixed : (k v : ℕ) → k < o.plan.sizes.kept_bits + WIRES → v < o.plan.sizes.variables →
       ((bit_cell o k).address ≢ word_cell o v) × ((bit_cell o k).address ≢ word_cell o v + 1)
+  pub bit_other : (k : ℕ) → k < o.plan.sizes.kept_bits + WIRES → IsOther (own_cells o.plan.target) (bit_cell o k).address
+  pub word_other : (v : ℕ) → v < o.plan.sizes.variables → IsOther (own_cells o.plan.target) (word_cell o v) × IsOther (own_cells o.plan.target) (word_cell o v + 1)
 
 -- bytes that stand for a store, and show a reading
 pub record Good (o : Layout) (r : Reading) (d : Store) (t : int.Store) : Type 0 where
@@ -48,6 +51,7 @@ pub record Good (o : Layout) (r : Reading) (d : Store) (t : int.Store) : Type 0 
   pub cells : length d.cells ≡ 1120
   pub latches : length d.latches ≡ 5
   pub shown : d.converting ≡ false
+  pub scratch : d.scratch ≡ own_cells o.plan.target
 
 -- a list of bytes with a bit of one of them written
 abbrev put_in : List ℕ → ℕ → ℕ → Bool → List ℕ
@@ -92,6 +96,25 @@ module _ (o : Layout) (r : Reading) (apart : Apart o) (pins : HasPins o) where
     cells = g.cells;
     latches = g.latches;
     shown = g.shown;
+    scratch = g.scratch;
+  }
+
+  -- nor are the cells on which the routines work
+  pub others_kept : (d e : Store) (t : int.Store) → ((c : ℕ) → IsOther (own_cells o.plan.target) c → cell e c ≡ cell d c) → length e.cells ≡ 1120 →
+      e ≡ record d { cells = e.cells; flag = e.flag } → Good o r d t → Good o r e t
+  others_kept d e t kept long rest g = record {
+    stands = record {
+      bits = λ k l. ap (λ n. bit_of n (bit_cell o k).bit) (kept (bit_cell o k).address (apart.bit_other k l)) ∙ g.stands.bits k l;
+      outputs = λ k l. ap (λ (x : Store). bit_of (slice_index x.latches (pin_at o.outputs k).port) (pin_at o.outputs k).bit) rest ∙ g.stands.outputs k l;
+      numbers = λ v l. subst (IsWordOf (t.number v)) (sym (word_kept d e (word_cell o v) (kept (word_cell o v) (apart.word_other v l).0)
+          (kept (word_cell o v + 1) (apart.word_other v l).1))) (g.stands.numbers v l);
+      eeprom = ap (λ (x : Store). slice_index x.eeprom) rest ∙ g.stands.eeprom;
+    };
+    levels = λ k l. ap (λ (x : Store). bit_of (slice_index x.reading.levels (pin_at o.inputs k).port) (pin_at o.inputs k).bit) rest ∙ g.levels k l;
+    cells = long;
+    latches = ap (λ (x : Store). length x.latches) rest ∙ g.latches;
+    shown = ap (λ (x : Store). x.converting) rest ∙ g.shown;
+    scratch = ap (λ (x : Store). x.scratch) rest ∙ g.scratch;
   }
 
   pub bit_written : (d : Store) (t : int.Store) (b : written.BitDest) (x : Bool) → IsDest (room_of o) b → Good o r d t →
@@ -116,6 +139,7 @@ module _ (o : Layout) (r : Reading) (apart : Apart o) (pins : HasPins o) where
         cells = length-set d.cells a.address _ ∙ g.cells;
         latches = g.latches;
         shown = g.shown;
+        scratch = g.scratch;
       }
   bit_written d t (opdest.Y j) x h g =
       let a = pin_at o.outputs j in
@@ -136,6 +160,7 @@ module _ (o : Layout) (r : Reading) (apart : Apart o) (pins : HasPins o) where
         cells = g.cells;
         latches = length-set d.latches a.port _ ∙ g.latches;
         shown = g.shown;
+        scratch = g.scratch;
       }
 
   pub word_written : (d : Store) (t : int.Store) (v : ℕ) (z : ℤ) (n : ℕ) → v < o.plan.sizes.variables → IsWordOf z n → Good o r d t →
@@ -156,6 +181,7 @@ module _ (o : Layout) (r : Reading) (apart : Apart o) (pins : HasPins o) where
         cells = words_kept d a n ∙ g.cells;
         latches = g.latches;
         shown = g.shown;
+        scratch = g.scratch;
       }
     where
       number_by : (u : ℕ) → u < o.plan.sizes.variables → (b : Bool) → nat_eq v u ≡ b → IsWordOf (if b then z else t.number u)

@@ -1,16 +1,17 @@
 -- Numbers of 16 bits with a sign, and words.
 use Rattle.std.proofs.Common.{◌≡◌, ℕ, zero, suc, ◌+◌, ◌*◌, ◌-◌, ◌/◌, ◌%◌, ◌<◌, ◌≤◌, inl, inr, Bool, true, false, ltb, cond, ℤ, pos, negsuc, refl, sym, ap, subst, ◌∙◌, arith}
-use Rattle.std.specs.Prelude.{◌⊎◌, nat_lt, nat_le, ◌==◌, int_lt, int_le, ◌+ℤ◌, ◌-ℤ◌, neg_ℤ, not}
+use Rattle.std.specs.Prelude.{◌⊎◌, nat_lt, nat_le, ◌==◌, int_lt, int_le, ◌+ℤ◌, ◌-ℤ◌, ◌*ℤ◌, neg_ℤ, not}
 use Rattle.std.specs.Int.{int_wrap, w16, cast_signed}
 use Rattle.std.specs.Int.RustNames.{FitsSigned}
 use Rattle.std.specs.Ordering.{int_eq}
 use Rattle.std.proofs.lemmas.Bool.Decides.{nat_tests, Decides-int_eq}
 use Rattle.std.proofs.lemmas.Bool.{and_from}
-use Rattle.std.proofs.lemmas.Int.{ints, SFits-int_wrap, to_z_pos, wrapping_add-bits, wrapping_sub-bits, int_wrap_fits, int_wrap-add_right}
+use Rattle.std.proofs.lemmas.Int.{ints, SFits-int_wrap, to_z_pos, wrapping_add-bits, wrapping_sub-bits, wrapping_mul-bits, int_wrap_fits, int_wrap-add_right}
 use Rattle.ld_base.specs.Wrap.{wrap}
 use Rattle.ladder_meaning.specs.Device.{word_of}
 use Rattle.ladder_meaning.specs.Numbers.{is_number, IsNumber}
 use Rattle.byte_code.specs.Store.{lifted}
+use Rattle.byte_routines.specs.Words.{product}
 use Rattle.byte_lower.specs.Stands.{IsWordOf}
 
 high_by : (m : ℕ) (b : Bool) → ltb m 32768 ≡ b → b ≡ false → cast_signed w16 m ≡ negsuc (65536 - suc m)
@@ -124,6 +125,13 @@ module _ (a b : ℤ) (m n : ℕ) (f : IsWordOf a m) (g : IsWordOf b n) where
     number = wrapped (a -ℤ b);
     word = sym (signed_word ((m + (65536 - n)) % 65536) (omega arith)) ∙ ap word_of (wrapping_sub-bits w16 m n m_small n_small) ∙ ap
         (λ z. word_of (wrap (z -ℤ cast_signed w16 n))) a_is ∙ ap (λ z. word_of (wrap (a -ℤ z))) b_is;
+  }
+
+  pub product_word : IsWordOf (wrap (a *ℤ b)) (product m n)
+  product_word = record {
+    number = wrapped (a *ℤ b);
+    word = sym (signed_word (m * n % 65536) (omega arith)) ∙ ap word_of (wrapping_mul-bits w16 m n m_small n_small) ∙ ap
+        (λ z. word_of (wrap (z *ℤ cast_signed w16 n))) a_is ∙ ap (λ z. word_of (wrap (a *ℤ z))) b_is;
   }
 
   pub less_word : int_lt a b ≡ nat_lt (lifted m) (lifted n)

@@ -1,6 +1,7 @@
 -- The code of a program, and what each run of it does.
 use Rattle.std.specs.Prelude.{◌≡◌, ℕ, zero, suc, ◌<◌, ◌≤◌, Bool, true, false, List, [], ◌∷◌, ◌++◌, length, map, All, ℤ, pos, if◌then◌else◌, slice_index, slice_index_or, slice_get, Some, None}
 use Rattle.std.specs.Ordering.{int_eq}
+use Rattle.chip_tables.specs.Scratch.{scratch_of}
 use Rattle.chip_tables.specs.declared.memory.TheConstants.{DATA_ADDRESSES}
 use Rattle.chip_tables.specs.declared.outside.PinReading.{PinReading}
 use Rattle.runs.specs.Run.{Moment, moment, first_moment}
@@ -59,6 +60,7 @@ pub record IsFresh (o : Layout) (s : Bytes) : Type 0 where
   pub place : s.place ≡ 0
   pub closed : s.open_call ≡ None
   pub target : s.store.target ≡ o.plan.target
+  pub scratch : scratch_of o.plan.target ≡ Some s.store.scratch
   pub shown : s.store.converting ≡ false
   pub cells : length s.store.cells ≡ DATA_ADDRESSES
   pub latches : s.store.latches ≡ 0 ∷ 0 ∷ 0 ∷ 0 ∷ 0 ∷ []

@@ -1,9 +1,11 @@
 -- Where a program's bits, variables and pins are on its chip.
 use Rattle.std.specs.Prelude.{◌≡◌, ℕ, ◌+◌, ◌-◌, ◌<◌, length, nat_lt, if◌then◌else◌, List, unwrap_or, slice_index_or}
-use Rattle.chip_tables.specs.Scratch.{at_bit, wire_of}
+use Rattle.chip_tables.specs.Scratch.{at_bit, pic_scratch, scratch_of, wire_of}
 use Rattle.chip_tables.specs.declared.pins.PortBit.{PortBit}
 use Rattle.chip_tables.specs.declared.scratch.CellBit.{CellBit}
+use Rattle.chip_tables.specs.declared.scratch.Scratch.{Scratch}
 use Rattle.chip_tables.specs.declared.scratch.TheConstants.{WIRES}
+use Rattle.chip_tables.specs.declared.target.Target.{Target}
 use Rattle.int_code.specs.WellFormed.{Sizes}
 use Rattle.int_code.specs.declared.op.BitDest.TheVariants as opdest
 use Rattle.int_code.specs.declared.op.BitDest as written
@@ -27,6 +29,10 @@ kept_cell o k = at_bit (unwrap_or (byte_of_bit o.plan.target o.plan.sizes.variab
 -- a wire is one of the compiler's own bits
 abbrev pub wire_cell : Layout → ℕ → CellBit
 wire_cell o w = unwrap_or (wire_of o.plan.target w) (at_bit 0 0)
+
+-- the compiler's own cells; only a chip has some
+abbrev pub own_cells : Target → Scratch
+own_cells t = unwrap_or (scratch_of t) pic_scratch
 
 -- the bits of a program: the kept ones, and the wires behind them
 abbrev pub bit_cell : Layout → ℕ → CellBit
