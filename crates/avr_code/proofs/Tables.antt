@@ -1,7 +1,8 @@
 -- Tables: the index is compared with each place, from 0 on.
 use Rattle.std.proofs.Common.{◌≡◌, ◌≢◌, ◌⊎◌, inl, inr, ℕ, zero, suc, ◌+◌, ◌*◌, ◌/◌, ◌%◌, ◌<◌, ◌≤◌, Bool, true, false, List, [], ◌∷◌, length, refl, sym, ap, ap₂, ◌∙◌, subst, arith, lit<, lit≤, eq-eqb}
 use Rattle.std.proofs.lemmas.Bool.{cases_eq, ne_eqb}
-use Rattle.std.specs.Prelude.{◌==◌, ◌&&◌, if◌then◌else◌, slice_index, slice_index_or}
+use Rattle.std.proofs.lemmas.List.{take_all}
+use Rattle.std.specs.Prelude.{◌==◌, ◌&&◌, if◌then◌else◌, take, slice_index, slice_index_or}
 use Rattle.chip_tables.specs.Outside.{no_reading}
 use Rattle.chip_tables.specs.declared.scratch.Scratch.{Scratch}
 use Rattle.runs.specs.Chip.{steps_over}
@@ -170,15 +171,17 @@ module _ (board : Board) (lay : Layout) (m : AvrState) (s : Bytes) where
   pub table : (x : ℕ) (xs : List ℕ) (l : ℕ) → Ready (Table (x ∷ xs) l) → slice_index lay.places (suc s.place) < 8192 → StandsAt board lay.places m s →
       Goes (Table (x ∷ xs) l)
   table x xs l ready low st = coded board lay m s (Table (x ∷ xs) l) (Plain (insn.Cpi 30 0)) (Plain (insn.Brbc 1 2) ∷ Plain (insn.Ldi 24 (x % 256)) ∷ Plain
-      (insn.Ldi 25 (x / 256 % 256)) ∷ table_code 1 xs) ready refl refl refl (all_fit (x ∷ xs) 0 (from_zero _ ready.admitted.1)) st
+      (insn.Ldi 25 (x / 256 % 256)) ∷ table_code 1 xs) ready (ap (table_code 0) whole) (ap (λ ys. size_in (table_code 0 ys)) (sym whole)) refl
+      (all_fit (x ∷ xs) 0 (from_zero _ ready.admitted.1)) st
       (λ v h. good_more (size_in (table_code 0 (x ∷ xs))) (cycle_count board (Table (x ∷ xs) l)) (Ends board lay m s (Table (x ∷ xs) l))
       (paths (table_code 0 (x ∷
-      xs)) 0 v) (le_zero (size_in (table_code 0 (x ∷ xs))))
+      xs)) 0 v) (subst (λ ys. size_in (table_code 0 (x ∷ xs)) ≤ size_in (table_code 0 ys) + 0) (sym whole) (le_zero (size_in (table_code 0 (x ∷ xs)))))
       (good v (cell s.store 30) (slice_index lay.places (suc s.place)) (Ends board lay m s (Table (x ∷ xs) l)) (h.has.holds.cells 30 r_low)
       (h.has.holds.bytes 30) low (x ∷ xs) 0 v (v.cells 24 + v.cells 25 * 256) (slice_index_or (x ∷ xs) (cell s.store 30) 0)
       (from_zero _ ready.admitted.1)
       (record { alike = alike v v refl refl refl (λ q. refl) refl refl refl refl; cells = λ n. sym (unchanged v h n) })
-      (on v.core.place _ _ (size_in (table_code 0 (x ∷ xs))) h.at ready.next)
+      (on v.core.place _ _ (size_in (table_code 0 (x ∷ xs))) h.at
+      (subst (λ ys. slice_index lay.places (suc s.place) ≡ slice_index lay.places s.place + size_in (table_code 0 ys)) whole ready.next))
       (found (x ∷ xs) 0 (cell s.store 30) (cell s.store 30) (v.cells 24 + v.cells 25 * 256) (zero_on (cell s.store 30)) (within v h))
       (λ w looks at. record {
         has = subst (λ c. Has board lay.places w (tabled_by (x ∷ xs) c s.store)) (sym h.has.holds.scratch)
@@ -186,6 +189,9 @@ module _ (board : Board) (lay : Layout) (m : AvrState) (s : Bytes) where
         at = at;
       })))
     where
+      whole : take 256 (x ∷ xs) ≡ x ∷ xs
+      whole = take_all 256 (x ∷ xs) ready.admitted.1
+
       le_zero : (n : ℕ) → n ≤ n + 0
       le_zero n = omega arith
 

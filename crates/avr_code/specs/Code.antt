@@ -2,7 +2,7 @@
 --
 -- Once the start was done R1 holds 0; R16 to R19 hold nothing between two primitives. A word is computed in R16 and R17, its low byte first, with the other
 -- operand in R18 and R19; the byte of a bit that is tested is in R18. The cells below 20h are registers, and the others are in the SRAM.
-use Rattle.std.specs.Prelude.{ℕ, zero, suc, ◌+◌, ◌-◌, ◌/◌, ◌%◌, ◌^◌, ◌==◌, ◌&&◌, ◌||◌, not, nat_le, nat_lt, Bool, true, false, if◌then◌else◌, List, [], ◌∷◌, ◌++◌, slice_index}
+use Rattle.std.specs.Prelude.{ℕ, zero, suc, ◌+◌, ◌-◌, ◌/◌, ◌%◌, ◌^◌, ◌==◌, ◌&&◌, ◌||◌, not, nat_le, nat_lt, Bool, true, false, if◌then◌else◌, List, [], ◌∷◌, ◌++◌, take, slice_index}
 use Rattle.chip_tables.specs.Bits.{as_bit}
 use Rattle.chip_tables.specs.declared.pins.PortBit.{PortBit}
 use Rattle.chip_tables.specs.declared.settings.Settings.{Settings}
@@ -211,7 +211,7 @@ compare_code (compares.Below a n) =
 abbrev pub poll_code : List Piece
 poll_code = Plain (insn.In 16 0x38) ∷ Plain (insn.Sbrs 16 4) ∷ Plain (insn.Rjmp 4093) ∷ Plain (insn.Out 0x38 16) ∷ []
 
--- A becomes the value whose index is the low byte of R: each index is compared
+-- A becomes the value whose index is the low byte of R: each index is compared. An index is a byte, so that of a table the first 256 values have code.
 abbrev pub table_code : ℕ → List ℕ → List Piece
 table_code i [] = []
 table_code i (x ∷ xs) =
@@ -253,7 +253,7 @@ code_of board (AdcPoll l) labels = []
 code_of board (Bit op) labels = bit_code op
 code_of board (Device op) labels = []
 code_of board (Eeprom op) labels = []
-code_of board (Table values l) labels = table_code 0 values
+code_of board (Table values l) labels = table_code 0 (take 256 values)
 
 -- the words that stand in flash for an instruction, the first one and what may follow it
 abbrev pub words_by : ℕ → AvrInsn → List ℕ
