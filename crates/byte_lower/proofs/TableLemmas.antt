@@ -1,5 +1,5 @@
 -- The value of a table at the index that a word holds.
-use Rattle.std.proofs.Common.{◌≡◌, ℕ, zero, suc, ◌<◌, ◌≤◌, inl, inr, List, [], ◌∷◌, length, map, Some, None, ℤ, pos, negsuc, refl, sym, ap, ◌∙◌, arith}
+use Rattle.std.proofs.Common.{◌≡◌, ℕ, zero, suc, ◌<◌, ◌≤◌, inl, inr, List, [], ◌∷◌, length, map, Some, None, ℤ, refl, sym, ap, ◌∙◌, arith}
 use Rattle.std.specs.Prelude.{◌⊎◌, All, slice_get, slice_index_or}
 use Rattle.std.specs.Int.{w16, cast_signed}
 use Rattle.std.proofs.lemmas.List.Elements.{All-head, All-tail}
