@@ -1,6 +1,6 @@
 -- Each primitive of a program's code is one that code for its layout may have.
 use Rattle.std.proofs.Common.{◌≡◌, ℕ, zero, suc, ◌+◌, ◌-◌, ◌/◌, ◌<◌, ◌≤◌, Bool, true, false, List, [], ◌∷◌, ◌++◌, length, Option, Some, None, ℤ, pos, refl, sym, ap, ◌∙◌, arith}
-use Rattle.std.proofs.lemmas.Bool.{and_from, or_left, or_right}
+use Rattle.std.proofs.lemmas.Bool.{and_from, and_parts, or_left, or_right}
 use Rattle.std.specs.Prelude.{◌&&◌, ◌==◌, nat_lt, nat_le, if◌then◌else◌, int_lt, All}
 use Rattle.std.specs.List.{list_any, list_all}
 use Rattle.std.specs.Ordering.{int_eq}
@@ -16,6 +16,7 @@ use Rattle.chip_tables.specs.declared.scratch.TheConstants.{WIRES}
 use Rattle.chip_tables.proofs.RamLemmas.{inside}
 use Rattle.mem_plan.specs.Needs.{ram_need}
 use Rattle.mem_plan.specs.Places.{IsChip}
+use Rattle.ladder_meaning.specs.Numbers.{value_at}
 use Rattle.int_code.specs.Shapes.{shape_of}
 use Rattle.int_code.specs.WellFormed.{IsDest, IsSource, IsNumSource, IsComputed, IsInRange}
 use Rattle.int_code.specs.declared.op.BitDest as written
@@ -23,18 +24,18 @@ use Rattle.int_code.specs.declared.op.BitDest.TheVariants as opdest
 use Rattle.int_code.specs.declared.op.BitSource as read
 use Rattle.int_code.specs.declared.op.BitSource.TheVariants as opsource
 use Rattle.int_code.specs.declared.op.IntOp.{IntOp}
-use Rattle.int_code.specs.declared.op.IntOp.TheVariants.{Set, Clr, Cpy, Not, Ifs, Ifc, Iflt, Ifeq, Els, Fi, Lit, Mov, Add, Sub, Inc, Dec}
+use Rattle.int_code.specs.declared.op.IntOp.TheVariants.{Set, Clr, Cpy, Not, Ifs, Ifc, Iflt, Ifeq, Els, Fi, Lit, Mov, Add, Sub, Inc, Dec, Tab}
 use Rattle.int_code.specs.declared.op.IntProgram.{IntProgram}
 use Rattle.int_code.specs.declared.op.NumSource.{NumSource}
 use Rattle.int_code.specs.declared.op.NumSource.TheVariants.{V, N}
-use Rattle.byte_code.specs.Admitted.{is_scratch, is_cell, is_word, reads_bit, writes_bit, admits}
+use Rattle.byte_code.specs.Admitted.{is_scratch, is_scratch_word, is_cell, is_word, reads_bit, writes_bit, admits}
 use Rattle.byte_code.specs.declared.prim.Paced.{Paced}
 use Rattle.byte_lower.proofs.CodeLemmas.{Every, every_on}
 use Rattle.byte_lower.proofs.ListLemmas.{guard_ranges}
 use Rattle.byte_lower.proofs.PlaceLemmas.{AvrWire, power, alone, shared, avr_view, wire_found, BitView, kept, wired, bit_view, WirePlace, Listed, kept_listed, low_listed, high_listed, places_apart}
 use Rattle.byte_lower.specs.Code.{CanPlace, booted, start_values, code_of}
-use Rattle.byte_lower.specs.Layout.{word_cell, bit_cell, pin_at, dest_of, source_of, room_of}
-use Rattle.byte_lower.specs.Lists.{is_built, label_of, list_of, lists_of, top_of, labels_behind, unless_less, unless_equal, sum, difference, move, number, guard_of, put_where, joined}
+use Rattle.byte_lower.specs.Layout.{own_cells, word_cell, bit_cell, pin_at, dest_of, source_of, room_of}
+use Rattle.byte_lower.specs.Lists.{is_built, label_of, list_of, lists_of, top_of, labels_behind, unless_less, unless_equal, sum, difference, put_known, look_up, move, number, guard_of, put_where, joined}
 use Rattle.byte_lower.specs.Outfit.{outfit_of}
 use Rattle.byte_lower.specs.declared.guard.Guard.{Guard}
 use Rattle.byte_lower.specs.declared.layout.Layout.{Layout}
@@ -80,6 +81,21 @@ is_wire_scratch Mega16 c w h x = ap (λ p. is_scratch Mega16 p.address) (wired_a
     (avr_view w)
 is_wire_scratch Interp c w h x = absurd (cc)
 is_wire_scratch AnsiC c w h x = absurd (cc)
+
+-- the words in which a table finds its index and leaves its value
+index_is_scratch : (target : Target) → IsChip target → is_scratch_word target (own_cells target).outcome ≡ true
+index_is_scratch F628 c = refl
+index_is_scratch F877 c = refl
+index_is_scratch Mega16 c = refl
+index_is_scratch Interp c = absurd (cc)
+index_is_scratch AnsiC c = absurd (cc)
+
+taken_is_scratch : (target : Target) → IsChip target → is_scratch_word target (own_cells target).left ≡ true
+taken_is_scratch F628 c = refl
+taken_is_scratch F877 c = refl
+taken_is_scratch Mega16 c = refl
+taken_is_scratch Interp c = absurd (cc)
+taken_is_scratch AnsiC c = absurd (cc)
 
 module _ (o : Layout) (c : IsChip o.plan.target) (room : ram_need o.plan.sizes ≤ ram_size o.plan.target) where
   abbrev Admits : Paced → Type 0
@@ -146,6 +162,24 @@ module _ (o : Layout) (c : IsChip o.plan.target) (room : ram_need o.plan.sizes �
   differences v (N n) (V b) h = (and_from _ _ (word v h.0) (word b h.2), tt)
   differences v (N n) (N m) h = (one v h.0, tt)
 
+  own_word : (a : ℕ) → is_scratch_word o.plan.target a ≡ true → is_word (outfit_of o) a ≡ true
+  own_word a h =
+      let both = and_parts (is_scratch o.plan.target a) (is_scratch o.plan.target (a + 1)) h in
+      and_from _ _ (or_left (is_scratch o.plan.target a) _ both.0) (or_left (is_scratch o.plan.target (a + 1)) _ both.1)
+
+  known_value : (v : ℕ) (x : Option ℤ) → v < o.plan.sizes.variables → Every Admits (put_known o v x)
+  known_value v None h = tt
+  known_value v (Some n) h = (one v h, tt)
+
+  looked : (v : ℕ) (w : NumSource) (values : List ℤ) (l : ℕ) → v < o.plan.sizes.variables → IsNumSource (room_of o) w → Every Admits (look_up o v w values l)
+  looked v (N i) values l h g = known_value v (value_at values i) h
+  looked v (V w) [] l h g = tt
+  looked v (V w) (n ∷ []) l h g = (one w g, (refl, (one v h, (refl, tt))))
+  looked v (V w) (n ∷ m ∷ ns) l h g =
+      let index = own_word (own_cells o.plan.target).outcome (index_is_scratch o.plan.target c) in
+      let taken = own_word (own_cells o.plan.target).left (taken_is_scratch o.plan.target c) in
+      (word w g, (refl, (and_from _ _ index (word w g), (refl, (and_from _ _ (word v h) taken, (refl, tt))))))
+
   list : (op : IntOp) (l top : ℕ) → is_built op ≡ true → IsInRange (room_of o) op → Every Admits (list_of o op l top)
   list (Set b) l top built h = (dest b h, tt)
   list (Clr b) l top built h = (dest b h, tt)
@@ -163,6 +197,7 @@ module _ (o : Layout) (c : IsChip o.plan.target) (room : ram_need o.plan.sizes �
   list (Sub v w u) l top built h = differences v w u h
   list (Inc v) l top built h = (word v h, tt)
   list (Dec v) l top built h = (word v h, tt)
+  list (Tab v w values) l top built h = looked v w values l h.0 h.1
   list op l top built h = absurd (cc)
 
   joined_by : (x : Option Guard) (one_list : Guard → List Paced) (other : List Paced) → ((g : Guard) → x ≡ Some g → Every Admits (one_list g)) →

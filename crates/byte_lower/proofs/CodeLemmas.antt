@@ -2,8 +2,9 @@
 use Rattle.std.proofs.Common.{◌≡◌, ℕ, zero, suc, ◌+◌, ◌<◌, ◌≤◌, Bool, true, false, List, [], ◌∷◌, ◌++◌, drop, Some, refl, sym, ap, subst, ◌∙◌, arith}
 use Rattle.std.specs.Prelude.{slice_get, if◌then◌else◌, int_lt, ℤ, pos, Option, None}
 use Rattle.std.specs.Ordering.{int_eq}
+use Rattle.ladder_meaning.specs.Numbers.{value_at}
 use Rattle.int_code.specs.declared.op.IntOp.{IntOp}
-use Rattle.int_code.specs.declared.op.IntOp.TheVariants.{Set, Clr, Cpy, Not, Ifs, Ifc, Iflt, Ifeq, Els, Fi, Lit, Mov, Add, Sub, Inc, Dec}
+use Rattle.int_code.specs.declared.op.IntOp.TheVariants.{Set, Clr, Cpy, Not, Ifs, Ifc, Iflt, Ifeq, Els, Fi, Lit, Mov, Add, Sub, Inc, Dec, Tab}
 use Rattle.int_code.specs.declared.op.NumSource.{NumSource}
 use Rattle.int_code.specs.declared.op.NumSource.TheVariants.{V, N}
 use Rattle.int_code.specs.Shapes.{shape_of}
@@ -13,7 +14,7 @@ use Rattle.byte_code.specs.Table as table
 use Rattle.byte_code.proofs.Times.{times, times-cons}
 use Rattle.byte_lower.proofs.RouteLemmas.{along, HasNoNames}
 use Rattle.byte_lower.specs.Code.{booted, start_values}
-use Rattle.byte_lower.specs.Lists.{label_of, list_of, lists_of, top_of, labels_behind, unless_less, unless_equal, sum, difference, move, number, guard_of, put_where, joined}
+use Rattle.byte_lower.specs.Lists.{label_of, list_of, lists_of, top_of, labels_behind, unless_less, unless_equal, sum, difference, put_known, look_up, move, number, guard_of, put_where, joined}
 use Rattle.byte_lower.specs.declared.guard.Guard.{Guard}
 use Rattle.byte_lower.specs.declared.layout.Layout.{Layout}
 
@@ -65,6 +66,16 @@ difference_turns o v (V a) (N m) = (refl, tt)
 difference_turns o v (N n) (V b) = (refl, tt)
 difference_turns o v (N n) (N m) = (refl, tt)
 
+known_turns : (o : Layout) (v : ℕ) (x : Option ℤ) → Every TurnsOnce (put_known o v x)
+known_turns o v None = tt
+known_turns o v (Some n) = (refl, tt)
+
+look_up_turns : (o : Layout) (v : ℕ) (w : NumSource) (values : List ℤ) (l : ℕ) → Every TurnsOnce (look_up o v w values l)
+look_up_turns o v (N i) values l = known_turns o v (value_at values i)
+look_up_turns o v (V w) [] l = tt
+look_up_turns o v (V w) (n ∷ []) l = (refl, (refl, (refl, (refl, tt))))
+look_up_turns o v (V w) (n ∷ m ∷ ns) l = (refl, (refl, (refl, (refl, (refl, (refl, tt))))))
+
 list_turns : (o : Layout) (op : IntOp) (l top : ℕ) → Every TurnsOnce (list_of o op l top)
 list_turns o (Set b) l top = (refl, tt)
 list_turns o (Clr b) l top = (refl, tt)
@@ -82,6 +93,7 @@ list_turns o (Add v w u) l top = sum_turns o v w u
 list_turns o (Sub v w u) l top = difference_turns o v w u
 list_turns o (Inc v) l top = (refl, tt)
 list_turns o (Dec v) l top = (refl, tt)
+list_turns o (Tab v w values) l top = look_up_turns o v w values l
 list_turns o op l top = tt
 
 pub every_joined : (P : Paced → Type 0) (x : Option Guard) (one : Guard → List Paced) (list : List Paced) → ((g : Guard) → Every P (one g)) → Every P list →

@@ -1,20 +1,25 @@
 -- What is lowered does nothing to the devices.
-use Rattle.std.proofs.Common.{◌≡◌, ℕ, zero, suc, Bool, true, false, List, [], ◌∷◌, refl, ap, ◌∙◌}
+use Rattle.std.proofs.Common.{◌≡◌, ℕ, zero, suc, Bool, true, false, List, [], ◌∷◌, Option, Some, None, ℤ, refl, ap, ◌∙◌}
 use Rattle.std.specs.Prelude.{All, if◌then◌else◌}
 use Rattle.std.proofs.lemmas.List.Elements.{All-head, All-tail}
+use Rattle.ladder_meaning.specs.Numbers.{value_at}
 use Rattle.ladder_meaning.specs.declared.reading.Reading.{Reading}
-use Rattle.int_code.specs.Meaning.{Moment, begin, cycle, is_reached, run, step, store_after}
+use Rattle.int_code.specs.Meaning.{Moment, begin, cycle, is_reached, looked_up, run, step, store_after}
 use Rattle.int_code.specs.Store as int
 use Rattle.int_code.specs.declared.op.BitDest as written
 use Rattle.int_code.specs.declared.op.BitDest.TheVariants as opdest
 use Rattle.int_code.specs.declared.op.IntOp.{IntOp}
-use Rattle.int_code.specs.declared.op.IntOp.TheVariants.{Set, Clr, Cpy, Not, Ifs, Ifc, Iflt, Ifeq, Els, Fi, Lit, Mov, Add, Sub, Inc, Dec}
+use Rattle.int_code.specs.declared.op.IntOp.TheVariants.{Set, Clr, Cpy, Not, Ifs, Ifc, Iflt, Ifeq, Els, Fi, Lit, Mov, Add, Sub, Inc, Dec, Tab}
 use Rattle.byte_lower.specs.Code.{store_behind}
 use Rattle.byte_lower.specs.Lists.{is_built}
 
 bit_only : (t : int.Store) (b : written.BitDest) (x : Bool) → (int.with t b x).devices ≡ t.devices
 bit_only t (opdest.B k) x = refl
 bit_only t (opdest.Y k) x = refl
+
+number_only : (t : int.Store) (v : ℕ) (x : Option ℤ) → (looked_up t v x).devices ≡ t.devices
+number_only t v None = refl
+number_only t v (Some n) = refl
 
 op_keeps : (r : Reading) (op : IntOp) (t : int.Store) → is_built op ≡ true → (store_after r op t).devices ≡ t.devices
 op_keeps r (Set b) t h = bit_only t b true
@@ -33,6 +38,7 @@ op_keeps r (Add v w u) t h = refl
 op_keeps r (Sub v w u) t h = refl
 op_keeps r (Inc v) t h = refl
 op_keeps r (Dec v) t h = refl
+op_keeps r (Tab v w values) t h = number_only t v (value_at values (int.number_of t w))
 op_keeps r op t h = absurd (cc)
 
 step_keeps : (b : Bool) (s t : int.Store) → s.devices ≡ t.devices → (if b then s else t).devices ≡ t.devices

@@ -1,8 +1,8 @@
 -- Single primitives of code that goes forward.
-use Rattle.std.proofs.Common.{◌≡◌, ℕ, suc, ◌<◌, Bool, true, false, List, ◌∷◌, drop, refl, sym, ap, subst, ◌∙◌, arith}
-use Rattle.std.specs.Prelude.{if◌then◌else◌, slice_get}
+use Rattle.std.proofs.Common.{◌≡◌, ℕ, suc, ◌<◌, Bool, true, false, List, ◌∷◌, drop, length, refl, sym, ap, subst, ◌∙◌, arith}
+use Rattle.std.specs.Prelude.{if◌then◌else◌, slice_get, slice_index_or}
 use Rattle.byte_code.specs.declared.prim.BitOp.{BitOp}
-use Rattle.byte_code.specs.declared.prim.BytePrim.TheVariants.{Label, Jump, JumpWhere, Bit, Word, Compare}
+use Rattle.byte_code.specs.declared.prim.BytePrim.TheVariants.{Label, Jump, JumpWhere, Bit, Word, Compare, Table}
 use Rattle.byte_code.specs.declared.prim.CompareOp.{CompareOp}
 use Rattle.byte_code.specs.declared.prim.Paced.{Paced}
 use Rattle.byte_code.specs.declared.prim.Test.{Test}
@@ -10,6 +10,7 @@ use Rattle.byte_code.specs.declared.prim.WordOp.{WordOp}
 use Rattle.byte_code.specs.declared.state.Bytes.{Bytes}
 use Rattle.byte_code.specs.Counts.{TestFits, BitFits}
 use Rattle.byte_code.specs.Machine.{label_place, next_with, goes_to}
+use Rattle.byte_code.specs.Store.{cell, with_word}
 use Rattle.byte_code.specs.Table.{plain, bit_effect, word_effect, compare_effect, says, tested}
 use Rattle.byte_lower.proofs.RouteLemmas.{Reaches, go, here}
 use Rattle.byte_lower.specs.Lists.{paced}
@@ -28,6 +29,14 @@ module _ (code : List Paced) (Goal : Bytes → Type 0) (last : ℕ) (s : Bytes) 
       Reaches code Goal last s
   compare_go op e n = go code Goal last s (paced (Compare op)) (ap (slice_get code) is_at ∙ here code at (paced (Compare op)) rest e) refl (tt, tt) refl
       (omega arith) n
+
+  -- a table, within its values
+  pub table_go : (values : List ℕ) (l : ℕ) → drop at code ≡ paced (Table values l) ∷ rest → cell s.store s.store.scratch.outcome < length values →
+      Reaches code Goal last (next_with s (plain (with_word s.store s.store.scratch.left (slice_index_or values (cell s.store s.store.scratch.outcome) 0)))) →
+      Reaches code Goal last s
+  table_go values l e fits n =
+      go code Goal last s (paced (Table values l)) (ap (slice_get code) is_at ∙ here code at (paced (Table values l)) rest e) refl (tt, fits) refl (omega arith)
+      n
 
   pub label_go : (l : ℕ) → drop at code ≡ paced (Label l) ∷ rest → Reaches code Goal last (next_with s (plain s.store)) → Reaches code Goal last s
   label_go l e n = go code Goal last s (paced (Label l)) (ap (slice_get code) is_at ∙ here code at (paced (Label l)) rest e) refl (tt, tt) refl (omega arith) n

@@ -3,15 +3,16 @@ use Rattle.std.proofs.Common.{◌≡◌, ◌≢◌, ℕ, zero, suc, ◌+◌, ◌
 use Rattle.std.specs.Prelude.{slice_get, if◌then◌else◌, ◌==◌, ◌&&◌, int_lt, not}
 use Rattle.std.specs.Ordering.{int_eq}
 use Rattle.std.proofs.lemmas.Bool.Decides.{nat_tests}
+use Rattle.ladder_meaning.specs.Numbers.{value_at}
 use Rattle.int_code.specs.Shapes.{shape_of}
 use Rattle.int_code.specs.WellFormed.{nests}
 use Rattle.int_code.specs.declared.op.IntOp.{IntOp}
-use Rattle.int_code.specs.declared.op.IntOp.TheVariants.{Set, Clr, Cpy, Not, Ifs, Ifc, Iflt, Ifeq, Ifee, Els, Fi, Lit, Mov, Add, Sub, Inc, Dec}
+use Rattle.int_code.specs.declared.op.IntOp.TheVariants.{Set, Clr, Cpy, Not, Ifs, Ifc, Iflt, Ifeq, Ifee, Els, Fi, Lit, Mov, Add, Sub, Inc, Dec, Tab}
 use Rattle.int_code.specs.declared.op.IntProgram.{IntProgram}
 use Rattle.int_code.specs.declared.op.NumSource.{NumSource}
 use Rattle.int_code.specs.declared.op.NumSource.TheVariants.{V, N}
 use Rattle.int_code.specs.declared.op.Shape.{Shape}
-use Rattle.int_code.specs.declared.op.Shape.TheVariants.{Opens, Plain}
+use Rattle.int_code.specs.declared.op.Shape.TheVariants.{Opens}
 use Rattle.byte_code.specs.declared.prim.BytePrim.TheVariants.{Start, CyclePoll, Label, Jump}
 use Rattle.byte_code.specs.declared.prim.Paced.{Paced}
 use Rattle.byte_code.specs.Machine.{is_name, label_place}
@@ -21,10 +22,10 @@ use Rattle.byte_code.proofs.Times.{times, times-cons}
 use Rattle.target_core.specs.Law.{has_words, is_start, label_named}
 use Rattle.target_core.specs.Whole.{IsPlaced}
 use Rattle.byte_lower.proofs.CodeLemmas.{Every, every_on, every_joined, starts_names}
-use Rattle.byte_lower.proofs.RouteLemmas.{HasNoNames}
-use Rattle.byte_lower.proofs.WalkLemmas.{Falls, falls_up, no_names, guard_facts}
+use Rattle.byte_lower.proofs.RouteLemmas.{HasNoNames, NamesBut}
+use Rattle.byte_lower.proofs.WalkLemmas.{Falls, falls_up, IsNameless, no_names, look_up_names, guard_facts}
 use Rattle.byte_lower.specs.Code.{CanPlace, booted, polling, start_values, code_of}
-use Rattle.byte_lower.specs.Lists.{paced, label_of, list_of, lists_of, top_of, labels_behind, unless_less, unless_equal, sum, difference, guard_of, guard_by, put_where, joined}
+use Rattle.byte_lower.specs.Lists.{paced, label_of, list_of, lists_of, top_of, labels_behind, unless_less, unless_equal, sum, difference, put_known, look_up, guard_of, guard_by, put_where, joined}
 use Rattle.byte_lower.specs.Whole.{HasLabels}
 use Rattle.byte_lower.specs.declared.guard.Guard.{Guard}
 use Rattle.byte_lower.specs.declared.layout.Layout.{Layout}
@@ -58,6 +59,9 @@ times_more i k L = times-cons i k L ∙ more_is (k == i) (times i L)
 zero_and : (n : ℕ) → 0 + n ≡ n
 zero_and n = omega arith
 
+and_zero : (n : ℕ) → n + 0 ≡ n
+and_zero n = omega arith
+
 no_more : (n : ℕ) → suc n ≢ 0
 no_more n e = omega (arith, e)
 
@@ -67,6 +71,10 @@ one_less n e = omega (arith, e)
 none_standing : (l : ℕ) (ps : List Paced) → HasNoNames ps → standing l ps ≡ 0
 none_standing l [] h = refl
 none_standing l (p ∷ ps) h = ap (λ b. more b (standing l ps)) (h.0 l) ∙ none_standing l ps h.1
+
+none_but : (l m : ℕ) (ps : List Paced) → NamesBut m ps → l ≢ m → standing l ps ≡ 0
+none_but l m [] h ne = refl
+none_but l m (p ∷ ps) h ne = ap (λ b. more b (standing l ps)) (h.0 l ne) ∙ none_but l m ps h.1 ne
 
 -- One that stands once is where the first such label is.
 record Placed (code : List Paced) (l : ℕ) : Type 0 where
@@ -154,6 +162,19 @@ difference_names o v (V a) (N n) P h = h _ (λ l e. absurd (cc e))
 difference_names o v (N n) (V b) P h = h _ (λ l e. absurd (cc e))
 difference_names o v (N n) (N m) P h = h _ (λ l e. absurd (cc e))
 
+known_only : (o : Layout) (v m : ℕ) (x : Option ℤ) → Every (NamesOnly m) (put_known o v x)
+known_only o v m None = tt
+known_only o v m (Some n) = ((λ l e. absurd (cc e)), tt)
+
+look_up_only : (o : Layout) (v : ℕ) (w : NumSource) (values : List ℤ) (m : ℕ) → Every (NamesOnly m) (look_up o v w values m)
+look_up_only o v (N i) values m = known_only o v m (value_at values i)
+look_up_only o v (V w) [] m = tt
+look_up_only o v (V w) (n ∷ []) m = ((λ l e. absurd (cc e)), (own m, ((λ l e. absurd (cc e)), ((λ l e. absurd (cc e)), tt))))
+look_up_only o v (V w) (n ∷ k ∷ ns) m = (
+  (λ l e. absurd (cc e)),
+  (own m, ((λ l e. absurd (cc e)), ((λ l e. absurd (cc e)), ((λ l e. absurd (cc e)), ((λ l e. absurd (cc e)), tt))))),
+)
+
 -- an operation's list names its own label alone
 list_names : (o : Layout) (op : IntOp) (m top : ℕ) → Every (NamesOnly m) (list_of o op m top)
 list_names o (Set b) m top = ((λ l e. absurd (cc e)), tt)
@@ -172,10 +193,11 @@ list_names o (Add v w u) m top = (sum_names o v w u (NamesOnly m) (λ p h l e. a
 list_names o (Sub v w u) m top = (difference_names o v w u (NamesOnly m) (λ p h l e. absurd (h l e)), tt)
 list_names o (Inc v) m top = ((λ l e. absurd (cc e)), tt)
 list_names o (Dec v) m top = ((λ l e. absurd (cc e)), tt)
+list_names o (Tab v w values) m top = look_up_only o v w values m
 list_names o op m top = tt
 
--- a plain operation names none
-plain_names : (o : Layout) (op : IntOp) (m top : ℕ) → shape_of op ≡ Plain → Every (λ p. (l : ℕ) → label_named p.prim ≡ Some l → ⊥) (list_of o op m top)
+-- a plain operation without a label names none
+plain_names : (o : Layout) (op : IntOp) (m top : ℕ) → IsNameless op → Every (λ p. (l : ℕ) → label_named p.prim ≡ Some l → ⊥) (list_of o op m top)
 plain_names o (Set b) m top h = ((λ l e. absurd (cc e)), tt)
 plain_names o (Clr b) m top h = ((λ l e. absurd (cc e)), tt)
 plain_names o (Cpy b f) m top h = ((λ l e. absurd (cc e)), tt)
@@ -192,11 +214,16 @@ plain_names o (Add v w u) m top h = (sum_names o v w u (λ p. (l : ℕ) → labe
 plain_names o (Sub v w u) m top h = (difference_names o v w u (λ p. (l : ℕ) → label_named p.prim ≡ Some l → ⊥) (λ p g. g), tt)
 plain_names o (Inc v) m top h = ((λ l e. absurd (cc e)), tt)
 plain_names o (Dec v) m top h = ((λ l e. absurd (cc e)), tt)
+plain_names o (Tab v w values) m top h = absurd h
 plain_names o op m top h = tt
 
 every_map : (P Q : Paced → Type 0) (ps : List Paced) → ((p : Paced) → P p → Q p) → Every P ps → Every Q ps
 every_map P Q [] f h = tt
 every_map P Q (p ∷ ps) f h = (f p h.0, every_map P Q ps f h.1)
+
+every_both : (P Q R : Paced → Type 0) (ps : List Paced) → ((p : Paced) → P p → Q p → R p) → Every P ps → Every Q ps → Every R ps
+every_both P Q R [] f h g = tt
+every_both P Q R (p ∷ ps) f h g = (f p h.0 g.0, every_both P Q R ps f h.1 g.1)
 
 -- the labels up to number k stand as often as they are those of open ifs, and each that is named stands once
 record Settled (ps : List Paced) (k : ℕ) (labels : List ℕ) : Type 0 where
@@ -208,6 +235,24 @@ other m l ne = grind (arith, nat_tests, ne)
 
 itself : (m : ℕ) → (m == m) ≡ true
 itself m = grind (arith, nat_tests)
+
+is_itself : (m l : ℕ) → Some m ≡ Some l → (m == l) ≡ true
+is_itself m l e = let same : l ≡ m = own m l e in grind (arith, nat_tests, same)
+
+known_in : (o : Layout) (v : ℕ) (x : Option ℤ) → Every (NamesIn (put_known o v x)) (put_known o v x)
+known_in o v None = tt
+known_in o v (Some n) = ((λ l e. absurd (cc e)), tt)
+
+-- a look-up that names its label has it once
+look_up_in : (o : Layout) (v : ℕ) (w : NumSource) (values : List ℤ) (m : ℕ) → Every (NamesIn (look_up o v w values m)) (look_up o v w values m)
+look_up_in o v (N i) values m = known_in o v (value_at values i)
+look_up_in o v (V w) [] m = tt
+look_up_in o v (V w) (n ∷ []) m =
+    ((λ l e. absurd (cc e)), ((λ l e. ap (λ b. more b 0) (is_itself m l e)), ((λ l e. absurd (cc e)), ((λ l e. absurd (cc e)), tt))))
+look_up_in o v (V w) (n ∷ k ∷ ns) m = (
+  (λ l e. absurd (cc e)),
+  ((λ l e. ap (λ b. more b 0) (is_itself m l e)), ((λ l e. absurd (cc e)), ((λ l e. absurd (cc e)), ((λ l e. absurd (cc e)), ((λ l e. absurd (cc e)), tt))))),
+)
 
 -- no label of an open if is at or above a bound
 none_above : (bound l : ℕ) (labels : List ℕ) → Falls bound labels → bound ≤ l → times l labels ≡ 0
@@ -247,6 +292,30 @@ plains own_list rest k labels none nameless h = record {
       (every_map (NamesIn rest) (NamesIn (own_list ++ rest)) rest
       (λ p named l e. standing_on l own_list rest ∙ ap (λ n. n + standing l rest) (none_standing l own_list none) ∙ zero_and (standing l rest) ∙ named l e) h.named);
 }
+
+-- a list of a plain operation that may have the operation's own label, and has it once where it names it
+owns : (own_list rest : List Paced) (k : ℕ) (labels : List ℕ) → NamesBut (suc k) own_list → Every (NamesOnly (suc k)) own_list →
+    Every (NamesIn own_list) own_list → Falls (suc k) labels → Settled rest (suc k) labels → Settled (own_list ++ rest) k labels
+owns own_list rest k labels but only named falls h = record {
+  stand = λ l le. standing_on l own_list rest ∙ ap (λ n. n + standing l rest) (none_but l (suc k) own_list but (λ e. omega (arith, e, le)))
+      ∙ zero_and (standing l rest) ∙ h.stand l (omega (arith, le));
+  named = every_on (NamesIn (own_list ++ rest)) own_list rest
+      (every_both (NamesOnly (suc k)) (NamesIn own_list) (NamesIn (own_list ++ rest)) own_list one_own only named)
+      (every_map (NamesIn rest) (NamesIn (own_list ++ rest)) rest behind h.named);
+}
+  where
+    none_behind : standing (suc k) rest ≡ 0
+    none_behind = h.stand (suc k) (omega arith) ∙ none_above (suc k) (suc k) labels falls (omega arith)
+
+    behind : (p : Paced) → NamesIn rest p → NamesIn (own_list ++ rest) p
+    behind p once l e =
+        let apart : l ≢ suc k = λ f. no_more 0 (sym (once l e) ∙ ap (λ m. standing m rest) f ∙ none_behind) in
+        standing_on l own_list rest ∙ ap (λ n. n + standing l rest) (none_but l (suc k) own_list but apart) ∙ zero_and (standing l rest) ∙ once l e
+
+    one_own : (p : Paced) → NamesOnly (suc k) p → NamesIn own_list p → NamesIn (own_list ++ rest) p
+    one_own p own_only once l e =
+        let gone : standing l rest ≡ 0 = ap (λ m. standing m rest) (own_only l e) ∙ none_behind in
+        standing_on l own_list rest ∙ ap (λ n. standing l own_list + n) gone ∙ and_zero (standing l own_list) ∙ once l e
 
 -- what stands behind the label of an if that is open no more does not name it
 not_top : (rest : List Paced) (bound top l : ℕ) (labels : List ℕ) → Settled rest bound labels → top ≤ bound → times top labels ≡ 0 → standing l rest ≡ 1 → top ≢ l
@@ -310,6 +379,9 @@ module _ (o : Layout) where
   one (Iflt w u) ops k labels es n a f rest = opening (Iflt w u) ops k labels es (no_names o (Iflt w u) (suc k) (top_of labels) (inl refl)) n a f rest
   one (Ifeq w u) ops k labels es n a f rest = opening (Ifeq w u) ops k labels es (no_names o (Ifeq w u) (suc k) (top_of labels) (inl refl)) n a f rest
   one (Ifee v x) ops k labels es n a f rest = opening (Ifee v x) ops k labels es (no_names o (Ifee v x) (suc k) (top_of labels) (inl refl)) n a f rest
+  one (Tab v w values) ops k labels es n a f rest =
+      owns (look_up o v w values (suc k)) (lists_of o 0 ops (suc k) labels) k labels (look_up_names o v w values (suc k)) (look_up_only o v w values (suc k))
+      (look_up_in o v w values (suc k)) f (rest es n a (falls_up (suc k) (suc (suc k)) labels (omega arith) f))
   one Els ops k labels [] n a f rest = absurd (cc)
   one Els ops k [] (e ∷ es) n a f rest = absurd a
   one Els ops k (l ∷ labels) (e ∷ es) n a f rest =
@@ -415,6 +487,16 @@ difference_starts o v (V a) (N n) = refl
 difference_starts o v (N n) (V b) = refl
 difference_starts o v (N n) (N m) = refl
 
+known_starts : (o : Layout) (v : ℕ) (x : Option ℤ) → Every IsNoStart (put_known o v x)
+known_starts o v None = tt
+known_starts o v (Some n) = (refl, tt)
+
+look_up_starts : (o : Layout) (v : ℕ) (w : NumSource) (values : List ℤ) (m : ℕ) → Every IsNoStart (look_up o v w values m)
+look_up_starts o v (N i) values m = known_starts o v (value_at values i)
+look_up_starts o v (V w) [] m = tt
+look_up_starts o v (V w) (n ∷ []) m = (refl, (refl, (refl, (refl, tt))))
+look_up_starts o v (V w) (n ∷ k ∷ ns) m = (refl, (refl, (refl, (refl, (refl, (refl, tt))))))
+
 list_starts : (o : Layout) (op : IntOp) (m top : ℕ) → Every IsNoStart (list_of o op m top)
 list_starts o (Set b) m top = (refl, tt)
 list_starts o (Clr b) m top = (refl, tt)
@@ -432,6 +514,7 @@ list_starts o (Add v w u) m top = (sum_starts o v w u, tt)
 list_starts o (Sub v w u) m top = (difference_starts o v w u, tt)
 list_starts o (Inc v) m top = (refl, tt)
 list_starts o (Dec v) m top = (refl, tt)
+list_starts o (Tab v w values) m top = look_up_starts o v w values m
 list_starts o op m top = tt
 
 lists_start : (o : Layout) (passed : ℕ) (ops : List IntOp) (k : ℕ) (labels : List ℕ) → Every IsNoStart (lists_of o passed ops k labels)

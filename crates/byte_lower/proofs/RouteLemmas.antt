@@ -1,5 +1,5 @@
 -- Stretches of code that goes forward alone: their ways, the labels in front of them, and that each of their places is begun once.
-use Rattle.std.proofs.Common.{◌≡◌, ℕ, zero, suc, ◌+◌, ◌≤◌, ◌<◌, Bool, true, false, cond, List, [], ◌∷◌, ◌++◌, drop, Some, refl, sym, ap, subst, ◌∙◌, arith}
+use Rattle.std.proofs.Common.{◌≡◌, ◌≢◌, ℕ, zero, suc, ◌+◌, ◌≤◌, ◌<◌, Bool, true, false, cond, List, [], ◌∷◌, ◌++◌, drop, Some, refl, sym, ap, subst, ◌∙◌, arith}
 use Rattle.std.specs.Prelude.{slice_get, if◌then◌else◌, ◌==◌}
 use Rattle.std.proofs.lemmas.Bool.Decides.{nat_tests}
 use Rattle.chip_tables.specs.Outside.{no_reading}
@@ -74,6 +74,11 @@ abbrev pub HasNoNames : List Paced → Type 0
 HasNoNames [] = Unit {0}
 HasNoNames (p ∷ ps) = ((l : ℕ) → is_name (shape_of p.prim) l ≡ false) × HasNoNames ps
 
+-- of the labels only one may be among them
+abbrev pub NamesBut : ℕ → List Paced → Type 0
+NamesBut m [] = Unit {0}
+NamesBut m (p ∷ ps) = ((l : ℕ) → l ≢ m → is_name (shape_of p.prim) l ≡ false) × NamesBut m ps
+
 took : (n : ℕ) (code : List Paced) (p : Paced) (rest : List Paced) → drop n code ≡ p ∷ rest → (drop (suc n) code ≡ rest) × (slice_get code n ≡ Some p)
 took zero [] p rest e = absurd (cc)
 took zero (x ∷ xs) p rest e = (cc, let f : x ≡ p = cc in ap Some f)
@@ -110,6 +115,11 @@ module _ (code : List Paced) where
   pub pass_all : (at l : ℕ) (ps rest : List Paced) → drop at code ≡ ps ++ rest → HasNoNames ps → Ahead at l → Ahead (along at ps) l
   pass_all at l [] rest e none h = h
   pass_all at l (p ∷ ps) rest e none h = pass_all (suc at) l ps rest (behind at p (ps ++ rest) e) none.1 (pass at l p (ps ++ rest) e (none.0 l) h)
+
+  pub pass_but : (at l m : ℕ) (ps rest : List Paced) → drop at code ≡ ps ++ rest → NamesBut m ps → l ≢ m → Ahead at l → Ahead (along at ps) l
+  pass_but at l m [] rest e but ne h = h
+  pass_but at l m (p ∷ ps) rest e but ne h =
+      pass_but (suc at) l m ps rest (behind at p (ps ++ rest) e) but.1 ne (pass at l p (ps ++ rest) e (but.0 l ne) h)
 
   module _ (Goal : Bytes → Type 0) (last : ℕ) where
     -- it comes to the goal, at the last place, by places that rise, and sends nothing

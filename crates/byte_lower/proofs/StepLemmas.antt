@@ -19,7 +19,7 @@ use Rattle.int_code.specs.WellFormed.{IsDest, IsSource, IsNumSource, IsComputed,
 use Rattle.int_code.specs.declared.op.BitDest as written
 use Rattle.int_code.specs.declared.op.BitSource as read
 use Rattle.int_code.specs.declared.op.IntOp.{IntOp}
-use Rattle.int_code.specs.declared.op.IntOp.TheVariants.{Set, Clr, Cpy, Not, Ifs, Ifc, Iflt, Ifeq, Els, Fi, Lit, Mov, Add, Sub, Inc, Dec}
+use Rattle.int_code.specs.declared.op.IntOp.TheVariants.{Set, Clr, Cpy, Not, Ifs, Ifc, Iflt, Ifeq, Els, Fi, Lit, Mov, Add, Sub, Inc, Dec, Tab}
 use Rattle.int_code.specs.declared.op.NumSource.{NumSource}
 use Rattle.int_code.specs.declared.op.NumSource.TheVariants.{V, N}
 use Rattle.byte_code.specs.declared.prim.BitOp.TheVariants as bits
@@ -39,6 +39,7 @@ use Rattle.byte_code.specs.Machine.{label_place, next_with}
 use Rattle.byte_code.specs.Store.{bit_from, word_at, word_from, with_bit_at, with_word, lifted}
 use Rattle.byte_code.specs.Table.{plain, flagged, same, says, tested, word_effect, compare_effect}
 use Rattle.byte_lower.proofs.GoLemmas.{bit_go, word_go, compare_go, label_go, jump_go, where_go}
+use Rattle.byte_lower.proofs.LookUpLemmas.{look_up_step}
 use Rattle.byte_lower.proofs.RouteLemmas.{along, Reaches, Ahead, behind, pass}
 use Rattle.byte_lower.proofs.StoreLemmas.{Apart, Good, any_flag, bit_written, word_written, bit_read, is_shown, number_read}
 use Rattle.byte_lower.proofs.WordLemmas.{wrapped, sum_word, difference_word, opposite_sum, less_word, equal_word, next_less, next_number, none_above, equal_turned}
@@ -359,4 +360,8 @@ module _ (code : List Paced) (o : Layout) (r : Reading) (apart : Apart o) (pins 
   step_of (Dec v) ifs built h hold opens run e n =
       word_step code o r apart pins Goal last k at rest labels ifs t s closed good run is_at (words.Decrement (word_cell o v)) v (wrap (t.number v -ℤ pos 1)) _
       h (difference_word _ (pos 1) _ 1 (good.stands.numbers v h) one_word) refl e n
+  step_of (Tab v w values) ifs built h hold opens run e n =
+      look_up_step code o r apart pins Goal last at (label_of k) v w values rest t s (record { closed = closed; good = good; is_at = is_at }) h.0 h.1 h.2 hold.1
+      own e
+      (λ s1 b. n s1 (record { closed = b.closed; good = b.good; stands_at = inl (run, b.is_at) }))
   step_of op ifs built h hold opens run e n = absurd (cc)

@@ -1,9 +1,10 @@
 -- The lists of all operations, one after another.
 use Rattle.std.proofs.Common.{◌≡◌, ◌≢◌, ℕ, zero, suc, ◌<◌, ◌≤◌, ⊎_elim, inl, inr, Bool, true, false, not, List, [], ◌∷◌, ◌++◌, drop, refl, sym, ap, subst, ◌∙◌, arith, append_assoc}
-use Rattle.std.specs.Prelude.{Option, ◌⊎◌, ◌&&◌, ◌==◌, if◌then◌else◌, All, int_lt, pos, Some, None}
+use Rattle.std.specs.Prelude.{Option, ◌⊎◌, ◌&&◌, ◌==◌, if◌then◌else◌, All, int_lt, ℤ, pos, Some, None}
 use Rattle.std.proofs.lemmas.Bool.Decides.{nat_tests}
 use Rattle.std.proofs.lemmas.List.Elements.{All-head, All-tail}
 use Rattle.std.specs.Ordering.{int_eq}
+use Rattle.ladder_meaning.specs.Numbers.{value_at}
 use Rattle.ladder_meaning.specs.declared.reading.Reading.{Reading}
 use Rattle.int_code.specs.Literals.{HoldsNumbers}
 use Rattle.int_code.specs.Meaning.{Moment, all_run, holds, ifs_behind, is_reached, is_reached_by, store_after, step, run}
@@ -16,7 +17,7 @@ use Rattle.int_code.specs.declared.op.BitDest as written
 use Rattle.int_code.specs.declared.op.BitSource as read
 use Rattle.byte_code.specs.Table.{same}
 use Rattle.int_code.specs.declared.op.IntOp.{IntOp}
-use Rattle.int_code.specs.declared.op.IntOp.TheVariants.{Set, Clr, Cpy, Not, Ifs, Ifc, Iflt, Ifeq, Ifee, Els, Fi, Lit, Mov, Add, Sub, Inc, Dec}
+use Rattle.int_code.specs.declared.op.IntOp.TheVariants.{Set, Clr, Cpy, Not, Ifs, Ifc, Iflt, Ifeq, Ifee, Els, Fi, Lit, Mov, Add, Sub, Inc, Dec, Tab}
 use Rattle.int_code.specs.declared.op.NumSource.{NumSource}
 use Rattle.int_code.specs.declared.op.NumSource.TheVariants.{V, N}
 use Rattle.int_code.specs.declared.op.Shape.{Shape}
@@ -26,15 +27,18 @@ use Rattle.byte_code.specs.declared.prim.Paced.{Paced}
 use Rattle.byte_code.specs.declared.state.Bytes.{Bytes}
 use Rattle.byte_code.specs.Machine.{label_place}
 use Rattle.byte_lower.proofs.GoLemmas.{label_go}
-use Rattle.byte_lower.proofs.RouteLemmas.{along, along_on, HasNoNames, Reaches, arrive, Ahead, behind, beyond, pass, pass_all, found}
+use Rattle.byte_lower.proofs.RouteLemmas.{along, along_on, HasNoNames, NamesBut, Reaches, arrive, Ahead, behind, beyond, pass, pass_all, pass_but, found}
 use Rattle.byte_lower.proofs.StepLemmas.{same_true_is, same_false_is, guard_step, HasOpen, OpensOf, Sleeps, At, label_at, step_of}
 use Rattle.byte_lower.proofs.StoreLemmas.{Apart, Good, any_flag}
 use Rattle.byte_lower.specs.Layout.{room_of, HasPins}
-use Rattle.byte_lower.specs.Lists.{is_built, paced, label_of, list_of, lists_of, top_of, labels_behind, unless_less, unless_equal, sum, difference, guard_by, put_where, joined}
+use Rattle.byte_lower.specs.Lists.{is_built, paced, label_of, list_of, lists_of, top_of, labels_behind, unless_less, unless_equal, sum, difference, put_known, look_up, guard_by, put_where, joined}
 use Rattle.byte_lower.specs.declared.guard.Guard.{Guard}
 use Rattle.byte_lower.specs.declared.layout.Layout.{Layout}
 
--- all but els and fi have no label in their lists
+pub other_label : (m l : ℕ) → l ≢ m → (m == l) ≡ false
+other_label m l ne = grind (arith, nat_tests, ne)
+
+-- all but els, fi and look-ups have no label in their lists
 less_names : (b : Bool) (ps qs : List Paced) → HasNoNames ps → HasNoNames qs → HasNoNames (if b then ps else qs)
 less_names true ps qs h g = h
 less_names false ps qs h g = g
@@ -63,7 +67,24 @@ difference_names o v (V a) (N n) = ((λ m. refl), tt)
 difference_names o v (N n) (V b) = ((λ m. refl), tt)
 difference_names o v (N n) (N m) = ((λ m. refl), tt)
 
-pub no_names : (o : Layout) (op : IntOp) (l top : ℕ) → (shape_of op ≡ Opens) ⊎ (shape_of op ≡ Plain) → HasNoNames (list_of o op l top)
+put_known_names : (o : Layout) (v l : ℕ) (x : Option ℤ) → NamesBut l (put_known o v x)
+put_known_names o v l None = tt
+put_known_names o v l (Some n) = ((λ m ne. refl), tt)
+
+-- a look-up has its own label alone
+pub look_up_names : (o : Layout) (v : ℕ) (w : NumSource) (values : List ℤ) (l : ℕ) → NamesBut l (look_up o v w values l)
+look_up_names o v (N i) values l = put_known_names o v l (value_at values i)
+look_up_names o v (V w) [] l = tt
+look_up_names o v (V w) (n ∷ []) l = ((λ m ne. refl), ((λ m ne. refl), ((λ m ne. refl), ((λ m ne. other_label l m ne), tt))))
+look_up_names o v (V w) (n ∷ k ∷ ns) l =
+    ((λ m ne. refl), ((λ m ne. refl), ((λ m ne. refl), ((λ m ne. refl), ((λ m ne. refl), ((λ m ne. other_label l m ne), tt))))))
+
+-- a plain operation of which the list has no label
+abbrev pub IsNameless : IntOp → Type 0
+IsNameless (Tab v w values) = ⊥
+IsNameless op = shape_of op ≡ Plain
+
+pub no_names : (o : Layout) (op : IntOp) (l top : ℕ) → (shape_of op ≡ Opens) ⊎ IsNameless op → HasNoNames (list_of o op l top)
 no_names o (Set b) l top h = ((λ m. refl), tt)
 no_names o (Clr b) l top h = ((λ m. refl), tt)
 no_names o (Cpy b f) l top h = ((λ m. refl), tt)
@@ -82,6 +103,8 @@ no_names o (Add v w u) l top h = sum_names o v w u
 no_names o (Sub v w u) l top h = difference_names o v w u
 no_names o (Inc v) l top h = ((λ m. refl), tt)
 no_names o (Dec v) l top h = ((λ m. refl), tt)
+no_names o (Tab v w values) l top (inl h) = absurd (cc)
+no_names o (Tab v w values) l top (inr h) = absurd h
 no_names o op l top h = tt
 
 -- the labels of open ifs are below a bound, and each below the one inside it
@@ -98,9 +121,6 @@ abbrev pub Alike : List ℕ → List Bool → List Bool → Type 0
 Alike [] [] [] = Unit {0}
 Alike (l ∷ labels) (b ∷ ifs) (e ∷ es) = Alike labels ifs es
 Alike labels ifs es = ⊥
-
-pub other_label : (m l : ℕ) → l ≢ m → (m == l) ≡ false
-other_label m l ne = grind (arith, nat_tests, ne)
 
 same_label : (m l : ℕ) → m ≡ l → (m == l) ≡ true
 same_label m l e = grind (arith, nat_tests, e)
@@ -260,6 +280,14 @@ module _ (code : List Paced) where
   all_pass at [] ps rest e none h = tt
   all_pass at (l ∷ labels) ps rest e none h = (pass_all code at l ps rest e none h.0, all_pass at labels ps rest e none h.1)
 
+  all_pass_but : (at m : ℕ) (labels : List ℕ) (ps rest : List Paced) → drop at code ≡ ps ++ rest → NamesBut m ps → Falls m labels → AllAhead at labels →
+      AllAhead (along at ps) labels
+  all_pass_but at m [] ps rest e but falls h = tt
+  all_pass_but at m (l ∷ labels) ps rest e but falls h = (
+    pass_but code at l m ps rest e but (λ f. omega (arith, f, falls.0)) h.0,
+    all_pass_but at m labels ps rest e but (falls_up l m labels (omega (arith, falls.0)) falls.1) h.1,
+  )
+
   -- labels below one are no more in front of it behind it
   pass_label : (at top : ℕ) (labels : List ℕ) (rest : List Paced) → drop at code ≡ paced (Label top) ∷ rest → Falls top labels → AllAhead at labels →
       AllAhead (suc at) labels
@@ -295,6 +323,15 @@ module _ (code : List Paced) where
   marks_plain at k labels ps rest e none m = record {
     later = λ l h. pass_all code at l ps rest e none (m.later l (omega (arith, h)));
     ahead = all_pass at labels ps rest e none m.ahead;
+    falls = falls_up (suc k) (suc (suc k)) labels (omega arith) m.falls;
+  }
+
+  -- also where the operation's own label is among them
+  marks_own : (at k : ℕ) (labels : List ℕ) (ps rest : List Paced) → drop at code ≡ ps ++ rest → NamesBut (label_of k) ps → Marks at k labels →
+      Marks (along at ps) (suc k) labels
+  marks_own at k labels ps rest e but m = record {
+    later = λ l h. pass_but code at l (suc k) ps rest e but (λ f. omega (arith, f, h)) (m.later l (omega (arith, h)));
+    ahead = all_pass_but at (suc k) labels ps rest e but m.falls m.ahead;
     falls = falls_up (suc k) (suc (suc k)) labels (omega arith) m.falls;
   }
 
@@ -357,6 +394,8 @@ module _ (code : List Paced) where
       (no_names o (Ifeq w u) (label_of k) (top_of labels) (inl refl)) m
   marks_on o (Ifee v a) at k labels ifs rest op e m = marks_opens at k labels (list_of o (Ifee v a) (label_of k) (top_of labels)) rest e
       (no_names o (Ifee v a) (label_of k) (top_of labels) (inl refl)) m
+  marks_on o (Tab v w values) at k labels ifs rest op e m = marks_own at k labels (look_up o v w values (label_of k)) rest e
+      (look_up_names o v w values (label_of k)) m
   marks_on o op at k labels ifs rest opens e m = marks_plain at k labels (list_of o op (label_of k) (top_of labels)) rest e
       (no_names o op (label_of k) (top_of labels) (inr refl)) m
 

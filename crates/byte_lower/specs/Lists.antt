@@ -1,8 +1,8 @@
 -- The list of primitives of each operation.
-use Rattle.std.specs.Prelude.{ℕ, zero, suc, Bool, true, false, List, [], ◌∷◌, ◌++◌, ℤ, pos, ◌+ℤ◌, neg_ℤ, int_lt, if◌then◌else◌, Option, Some, None}
+use Rattle.std.specs.Prelude.{ℕ, zero, suc, Bool, true, false, List, [], ◌∷◌, ◌++◌, length, map, ℤ, pos, ◌+ℤ◌, neg_ℤ, int_lt, if◌then◌else◌, Option, Some, None}
 use Rattle.std.specs.Ordering.{int_eq}
-use Rattle.ladder_meaning.specs.Device.{low_byte, high_byte}
-use Rattle.ladder_meaning.specs.Numbers.{computed}
+use Rattle.ladder_meaning.specs.Device.{low_byte, high_byte, word_of}
+use Rattle.ladder_meaning.specs.Numbers.{computed, value_at}
 use Rattle.ld_base.specs.Wrap.{wrap}
 use Rattle.ladder_tree.specs.declared.element.MathHow.TheVariants as how
 use Rattle.int_code.specs.Shapes.{shape_of}
@@ -15,7 +15,7 @@ use Rattle.int_code.specs.declared.op.NumSource.TheVariants.{V, N}
 use Rattle.int_code.specs.declared.op.Shape.{Shape}
 use Rattle.int_code.specs.declared.op.Shape.TheVariants.{Opens, Turns, Closes, Plain}
 use Rattle.byte_code.specs.declared.prim.BytePrim.{BytePrim}
-use Rattle.byte_code.specs.declared.prim.BytePrim.TheVariants.{Label, Jump, JumpWhere, Bit, Word, Compare}
+use Rattle.byte_code.specs.declared.prim.BytePrim.TheVariants.{Label, Jump, JumpWhere, Bit, Word, Compare, Table}
 use Rattle.byte_code.specs.declared.prim.Test.TheVariants as test
 use Rattle.byte_code.specs.declared.prim.BitOp.TheVariants as bits
 use Rattle.byte_code.specs.declared.prim.WordOp.TheVariants as words
@@ -25,11 +25,11 @@ use Rattle.byte_code.specs.declared.prim.FlagKind.TheVariants as kind
 use Rattle.byte_code.specs.declared.prim.WordSource.{WordSource}
 use Rattle.byte_code.specs.declared.prim.WordSource.TheVariants as word
 use Rattle.byte_code.specs.declared.prim.Paced.{Paced}
-use Rattle.byte_lower.specs.Layout.{word_cell, dest_of, source_of}
+use Rattle.byte_lower.specs.Layout.{own_cells, word_cell, dest_of, source_of}
 use Rattle.byte_lower.specs.declared.guard.Guard.{Guard}
 use Rattle.byte_lower.specs.declared.layout.Layout.{Layout}
 
--- The operations that are lowered: all but products, quotients, look-ups and what is done to devices.
+-- The operations that are lowered: all but products, quotients and what is done to devices.
 abbrev pub is_built : IntOp → Bool
 is_built (Set b) = true
 is_built (Clr b) = true
@@ -57,7 +57,7 @@ is_built (Tx w s b) = false
 is_built (Eebusy b) = false
 is_built (Eerd v a) = false
 is_built (Eewr w a) = false
-is_built (Tab v w values) = false
+is_built (Tab v w values) = true
 
 -- a primitive that is begun once at most in a cycle, and not in front of the first
 abbrev pub paced : BytePrim → Paced
@@ -143,6 +143,34 @@ count_down o v = paced (Word (words.Decrement (word_cell o v)))
 abbrev pub turn : ℕ → ℕ → List Paced
 turn l top = paced (Jump l) ∷ paced (Label top) ∷ []
 
+-- the value at an index that is known, if there is one
+abbrev pub put_known : Layout → ℕ → Option ℤ → List Paced
+put_known o v None = []
+put_known o v (Some n) = put o v (number n) ∷ []
+
+abbrev pub compare_below : Layout → ℕ → ℕ → Paced
+compare_below o a n = paced (Compare (compares.Below (word_cell o a) n))
+
+-- the index goes to the word that a table reads
+abbrev pub put_index : Layout → ℕ → Paced
+put_index o w = paced (Word (words.Move (own_cells o.plan.target).outcome (word_in o w)))
+
+abbrev pub take_value : List ℤ → ℕ → Paced
+take_value values l = paced (Table (map word_of values) l)
+
+-- a variable becomes the word in which a table leaves its value
+abbrev pub put_taken : Layout → ℕ → Paced
+put_taken o v = put o v (word.Cells (own_cells o.plan.target).left)
+
+-- A variable becomes the value at the index, and stays where there is none. Of one value the index has to be 0, and of more it has to be below their
+-- number; else a jump leads to the label behind.
+abbrev pub look_up : Layout → ℕ → NumSource → List ℤ → ℕ → List Paced
+look_up o v (N i) values l = put_known o v (value_at values i)
+look_up o v (V w) [] l = []
+look_up o v (V w) (n ∷ []) l = compare_equal o w (number (pos 0)) ∷ jump_where kind.Equal false l ∷ put o v (number n) ∷ paced (Label l) ∷ []
+look_up o v (V w) (n ∷ m ∷ ns) l =
+    compare_below o w (length (n ∷ m ∷ ns)) ∷ jump_where kind.Below false l ∷ put_index o w ∷ take_value (n ∷ m ∷ ns) l ∷ put_taken o v ∷ paced (Label l) ∷ []
+
 -- The list of an operation that has the label l, where `top` is the label of the innermost open if. An if jumps to its label where its
 -- first branch does not run; its els jumps over the second branch to a label of its own, and stands at the if's; its fi stands at the last.
 abbrev pub list_of : Layout → IntOp → ℕ → ℕ → List Paced
@@ -162,6 +190,7 @@ list_of o (Add v w u) l top = sum o v w u ∷ []
 list_of o (Sub v w u) l top = difference o v w u ∷ []
 list_of o (Inc v) l top = count_up o v ∷ []
 list_of o (Dec v) l top = count_down o v ∷ []
+list_of o (Tab v w values) l top = look_up o v w values l
 -- these are not built
 list_of o (Ifee v a) l top = []
 list_of o (Mul v w u) l top = []
@@ -173,7 +202,6 @@ list_of o (Tx w s b) l top = []
 list_of o (Eebusy b) l top = []
 list_of o (Eerd v a) l top = []
 list_of o (Eewr w a) l top = []
-list_of o (Tab v w values) l top = []
 
 -- the label of the innermost open if
 abbrev pub top_of : List ℕ → ℕ

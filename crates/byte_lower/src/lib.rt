@@ -10,3 +10,4 @@ pub mod pins;
 mod places;
 pub mod program;
 mod push;
+mod table;

@@ -98,7 +98,8 @@ pub(crate) fn difference(layout: &Layout, v: u32, w: NumSource, u: NumSource) ->
     }
 }
 
-fn jump_where(kind: FlagKind, is: bool, label: u32) -> Paced
+/// Goes to the label where the flag, which is of this kind, is so.
+pub(crate) fn jump_where(kind: FlagKind, is: bool, label: u32) -> Paced
     ensures { result ≡ lists.jump_where kind is label }
 {
     let test = Test::Flag { kind, is };
@@ -113,7 +114,8 @@ fn compare_less(layout: &Layout, a: u32, b: WordSource) -> Paced
     paced(BytePrim::Compare(CompareOp::Less { a, b }))
 }
 
-fn compare_equal(layout: &Layout, a: u32, b: WordSource) -> Paced
+/// Whether the word of a variable is equal to another.
+pub(crate) fn compare_equal(layout: &Layout, a: u32, b: WordSource) -> Paced
     requires { a < layout.now.plan.sizes.variables }
     ensures { result ≡ lists.compare_equal layout.now a b }
 {

@@ -9,10 +9,11 @@ use crate::guard::Guard;
 use crate::layout::Layout;
 use crate::numbers::{difference, number, put, sum, unless_equal, unless_less, word};
 use crate::push::paced;
+use crate::table::look_up;
 use byte_code::prim::{BitOp, BytePrim, Paced, Prims, Test, WordOp};
 use byte_routines::push::push_all;
 use int_code::op::{BitDest, BitSource, IntOp};
-use std::alloc::AllocError;
+use std::alloc::{AllocError, Global};
 
 /// Whether the operation is lowered.
 pub fn is_built(op: &IntOp) -> bool
@@ -27,7 +28,7 @@ pub fn is_built(op: &IntOp) -> bool
         IntOp::Ifee { .. } | IntOp::Mul { .. } | IntOp::Div { .. } => false,
         IntOp::Adc { .. } | IntOp::Pwm { .. } | IntOp::Rx { .. } | IntOp::Tx { .. } => false,
         IntOp::Eebusy { .. } | IntOp::Eerd { .. } | IntOp::Eewr { .. } => false,
-        IntOp::Tab { .. } => false,
+        IntOp::Tab { .. } => true,
     }
 }
 
@@ -102,6 +103,7 @@ fn turn(into: &mut Prims, label: u32, top: u32) -> Result<(), AllocError>
 /// Appends the list of an operation. `label` is its own, and `top` that of the innermost open if.
 pub(crate) fn emit(
     into: &mut Prims,
+    alloc: Global,
     layout: &Layout,
     op: &IntOp,
     label: u32,
@@ -128,8 +130,11 @@ pub(crate) fn emit(
         IntOp::Sub { v, w, u } => difference(layout, *v, *w, *u),
         IntOp::Inc { v } => count_up(layout, *v),
         IntOp::Dec { v } => count_down(layout, *v),
-        IntOp::Ifee { .. } | IntOp::Mul { .. } | IntOp::Div { .. } | IntOp::Tab { .. } =>
-            unreachable!(),
+        IntOp::Tab { v, w, values } => {
+            let values = values.as_slice();
+            return look_up(into, alloc, layout, *v, *w, values, label);
+        }
+        IntOp::Ifee { .. } | IntOp::Mul { .. } | IntOp::Div { .. } => unreachable!(),
         IntOp::Adc { .. } | IntOp::Pwm { .. } | IntOp::Rx { .. } | IntOp::Tx { .. } =>
             unreachable!(),
         IntOp::Eebusy { .. } | IntOp::Eerd { .. } | IntOp::Eewr { .. } => unreachable!(),

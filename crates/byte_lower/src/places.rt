@@ -5,11 +5,11 @@ ghost use Rattle.chip_tables.specs.declared.scratch.TheConstants.{WIRES};
 ghost use Rattle.int_code.specs.WellFormed.{IsDest, IsSource};
 ghost use Rattle.mem_plan.specs.Needs.{ram_need};
 ghost use Rattle.byte_lower.specs.Layout as spec;
-ghost use Rattle.byte_lower.specs.Layout.{room_of};
+ghost use Rattle.byte_lower.specs.Layout.{own_cells, room_of};
 
 use crate::layout::Layout;
 use byte_code::prim::{BitDest, BitSource};
-use chip_tables::{CellBit, PortBit, wire};
+use chip_tables::{CellBit, PortBit, Scratch, scratch_cells, wire};
 use int_code::op;
 
 impl Layout {
@@ -26,6 +26,13 @@ impl Layout {
         ensures { result ≡ spec.word_cell self.now v }
     {
         self.plan.cell_of(v)
+    }
+
+    /// The compiler's own cells.
+    pub(crate) fn own_cells(&self) -> Scratch
+        ensures { result ≡ own_cells self.now.plan.target }
+    {
+        scratch_cells(self.plan.target()).unwrap()
     }
 
     /// Where a bit is: a kept one where the plan has it, and a wire in the compiler's own cells.

@@ -77,6 +77,7 @@ fn follow(labels: &mut Vec<u32>, shape: Shape, k: u32) -> Result<(), AllocError>
 /// too. The labels are those of the open ifs, the innermost last.
 fn emit_next(
     code: &mut Prims,
+    alloc: Global,
     layout: &Layout,
     ops: &[IntOp],
     k: usize,
@@ -96,7 +97,7 @@ fn emit_next(
         None => {
             let op = &ops[k];
             let top = top_of(labels.as_slice());
-            emit(code, layout, op, k as u32 + 1, top)?;
+            emit(code, alloc, layout, op, k as u32 + 1, top)?;
             follow(labels, op.shape(), k as u32)?;
             Ok(0)
         }
@@ -120,7 +121,7 @@ fn emit_all(
     let mut passed = 0;
     for k in 0..ops.len() {
         if passed == 0 {
-            passed = emit_next(code, layout, ops, k, &mut labels)?;
+            passed = emit_next(code, alloc, layout, ops, k, &mut labels)?;
         } else {
             passed -= 1;
         }
