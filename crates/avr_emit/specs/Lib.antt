@@ -1,0 +1,2 @@
+-- What the emitting functions say of the code that they append.
+pub mod Emit
