@@ -1,7 +1,8 @@
 //! The instructions by which registers take what a primitive names, and the words of instructions.
 
-ghost use Rattle.std.specs.Prelude.{◌≡◌, ◌<◌, ◌^◌, ◌-◌, ◌++◌, All, OnOk, true};
+ghost use Rattle.std.specs.Prelude.{◌≡◌, ◌<◌, ◌≤◌, ◌^◌, ◌-◌, ◌++◌, All, OnOk, true};
 ghost use Rattle.byte_code.specs.Store.{in_byte};
+ghost use Rattle.avr_mach.specs.declared.insn.AvrInsn.TheVariants as insn;
 ghost use Rattle.avr_mach.specs.Insn.{FieldsFit};
 ghost use Rattle.avr_mach.specs.Words.{size_of};
 ghost use Rattle.avr_code.specs.Code.{Loads, Stores, Fetches, Gives, Latches, insn_of, unless, unless_flag, masked, mask_of, is_wire, status_bit, words_by};
@@ -14,6 +15,16 @@ use chip_tables::bit_mask;
 use chip_tables::mega16::IO_FIRST;
 use std::alloc::AllocError;
 use target_core::words::Words;
+
+/// The register `d`, from 16 on, takes a number.
+pub(crate) fn ldi(d: u8, k: u8) -> AvrInsn
+    requires low { 16 ≤ d }
+    requires high { d < 32 }
+    ensures value { result ≡ insn.Ldi d k }
+    ensures fits { FieldsFit result }
+{
+    AvrInsn::Ldi { d, k }
+}
 
 /// The register `r` takes the cell `a`.
 pub(crate) fn loads(r: u8, a: u16) -> AvrInsn
@@ -65,7 +76,9 @@ pub(crate) fn unless(from: BitSource, is: bool) -> AvrInsn
     ensures value { result ≡ insn_of (unless from is) }
     ensures fits { FieldsFit result }
 {
-    let (BitSource::Cell { bit, .. } | BitSource::Level { bit, .. } | BitSource::Latch { bit, .. }) = from;
+    let (BitSource::Cell { bit, .. }
+    | BitSource::Level { bit, .. }
+    | BitSource::Latch { bit, .. }) = from;
     if is {
         AvrInsn::Sbrc { r: 18, b: bit % 8 }
     } else {
