@@ -460,7 +460,7 @@ module _ (env : Env) (m : AvrState) (v : View) (h : Sees m v) where
       ap (λ b. if b && nat_lt a 1120 then record m { sram = slice_set m.sram (a - 96) x } else m) (le-leb 96 a lo)
       ∙ ap (λ b. if b then record m { sram = slice_set m.sram (a - 96) x } else m) (lt-ltb a 1120 hi)
 
-  sts_writes : (a x : ℕ) → 96 ≤ a → a < 1120 → stored_at mega16 m a x ≡ after (record m { sram = slice_set m.sram (a - 96) x }) Next 2
+  pub sts_writes : (a x : ℕ) → 96 ≤ a → a < 1120 → stored_at mega16 m a x ≡ after (record m { sram = slice_set m.sram (a - 96) x }) Next 2
   sts_writes a x lo hi =
       ap₂ (λ b c. record {
         state = if b then with_reg m a x else if c then io_written m (register_in mega16 (a - 32)) x 2 else with_ram m a x;

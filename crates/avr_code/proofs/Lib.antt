@@ -11,6 +11,7 @@ pub mod Primitives
 pub mod Products
 pub mod Bits
 pub mod Tables
+pub mod Clearing
 pub mod Starts
 pub mod Control
 pub mod Polling

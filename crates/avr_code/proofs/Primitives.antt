@@ -96,7 +96,7 @@ fetch_fields (bit.Cell a b) (inr high) = let e = high.0 in let f = high.1 in
 fetch_fields (bit.Level port b) fit = (lit< tt, omega arith)
 fetch_fields (bit.Latch port b) fit = (lit< tt, omega arith)
 
-piece_fields : (p : Piece) → PieceFits p → FieldsFit (insn_of p)
+pub piece_fields : (p : Piece) → PieceFits p → FieldsFit (insn_of p)
 piece_fields (Plain i) fit = insn_fields i fit
 piece_fields (Loads r a) fit = by fit.1
   where
@@ -115,7 +115,7 @@ piece_fields (Stores a r) fit = by fit.1
     by (inr high) = let e = high.0 in let f = high.1 in
         subst (λ b. FieldsFit (if b then insn.Mov a r else insn.Sts a r)) (sym (le-ltb a 32 (omega (arith, e)))) (omega (arith, f), fit.0)
 
-all_fields : (ps : List Piece) → AllPiecesFit ps → AllFit ps
+pub all_fields : (ps : List Piece) → AllPiecesFit ps → AllFit ps
 all_fields [] fit = tt
 all_fields (p ∷ ps) fit = (piece_fields p fit.0, all_fields ps fit.1)
 
@@ -216,7 +216,7 @@ six_on n a b c d p q e f = omega (arith, e, f)
 abbrev zero_of : ℕ → ℕ → ℕ → ℕ → Bool
 zero_of x z y w = (difference x y 0 == 0) && (difference z w (as_bit (nat_lt x (y + 0))) == 0)
 
-equal_flag : (a b c d x z y w : ℕ) → x ≡ a → z ≡ b → y ≡ c → w ≡ d → a < 256 → b < 256 → c < 256 → d < 256 →
+pub equal_flag : (a b c d x z y w : ℕ) → x ≡ a → z ≡ b → y ≡ c → w ≡ d → a < 256 → b < 256 → c < 256 → d < 256 →
     zero_of x z y w ≡ (a + b * 256 == c + d * 256)
 equal_flag a b c d x z y w e f g h ha hb hc hd =
     ap₂ (λ x z. zero_of x z y w) e f ∙ ap₂ (λ y w. zero_of a b y w) g h ∙ equal_words a b c d ha hb hc hd

@@ -2,7 +2,7 @@
 --
 -- Once the start was done R1 holds 0; R16 to R19 hold nothing between two primitives. A word is computed in R16 and R17, its low byte first, with the other
 -- operand in R18 and R19; the byte of a bit that is tested is in R18. The cells below 20h are registers, and the others are in the SRAM.
-use Rattle.std.specs.Prelude.{ℕ, zero, suc, ◌+◌, ◌-◌, ◌/◌, ◌%◌, ◌^◌, ◌==◌, ◌&&◌, ◌||◌, not, nat_le, nat_lt, Bool, true, false, if◌then◌else◌, List, [], ◌∷◌, ◌++◌, take, slice_index}
+use Rattle.std.specs.Prelude.{ℕ, zero, suc, ◌+◌, ◌-◌, ◌*◌, ◌/◌, ◌%◌, ◌^◌, ◌==◌, ◌&&◌, ◌||◌, not, nat_le, nat_lt, Bool, true, false, if◌then◌else◌, List, [], ◌∷◌, ◌++◌, take, slice_index}
 use Rattle.chip_tables.specs.Bits.{as_bit}
 use Rattle.chip_tables.specs.declared.pins.PortBit.{PortBit}
 use Rattle.chip_tables.specs.declared.settings.Settings.{Settings}
@@ -217,10 +217,14 @@ table_code i [] = []
 table_code i (x ∷ xs) =
     Plain (insn.Cpi 30 i) ∷ Plain (insn.Brbc 1 2) ∷ Plain (insn.Ldi 24 (x % 256)) ∷ Plain (insn.Ldi 25 (x / 256 % 256)) ∷ table_code (i + 1) xs
 
--- so many bytes of the SRAM become 0, from one on, and then comes the rest
-abbrev pub clear_code : ℕ → ℕ → List Piece → List Piece
-clear_code zero i rest = rest
-clear_code (suc k) i rest = Stores (SRAM_FIRST + i) 1 ∷ clear_code k (i + 1) rest
+-- So many bytes of the SRAM become 0, from its first on: X goes over them, and its own bytes are kept in R18 and R19. The loop ends where X is behind the
+-- last of them.
+abbrev pub clear_code : ℕ → List Piece
+clear_code zero = []
+clear_code (suc k) =
+    Plain (insn.Mov 18 26) ∷ Plain (insn.Mov 19 27) ∷ Plain (insn.Ldi 26 SRAM_FIRST) ∷ Plain (insn.Ldi 27 0)
+    ∷ Plain (insn.Ldi 16 ((SRAM_FIRST + suc k) / 256)) ∷ Plain (insn.St 1) ∷ Plain (insn.Cpi 26 ((SRAM_FIRST + suc k) % 256)) ∷ Plain (insn.Cpc 27 16)
+    ∷ Plain (insn.Brbc 1 124) ∷ Plain (insn.Mov 26 18) ∷ Plain (insn.Mov 27 19) ∷ []
 
 -- an I/O register takes a number
 abbrev pub set_code : ℕ → ℕ → List Piece → List Piece
@@ -236,7 +240,7 @@ setup_code board =
     (set_code 0x2e board.settings.timer.control (set_code 0x38 16 (Plain (insn.Mov 15 1) ∷ []))))))))))
 
 abbrev pub start_code : Board → ℕ → List Piece
-start_code board n = Plain (insn.Ldi 16 0) ∷ Plain (insn.Mov 1 16) ∷ clear_code n 0 (setup_code board)
+start_code board n = Plain (insn.Ldi 16 0) ∷ Plain (insn.Mov 1 16) ∷ (clear_code n ++ setup_code board)
 
 abbrev pub code_of : Board → BytePrim → List ℕ → List Piece
 code_of board (CyclePoll l) labels = poll_code
@@ -282,7 +286,8 @@ bit_cycles (bits.Copy to from inverted) = latch_cycles to
 bit_cycles (bits.PutIf from is to x) = latch_cycles to
 bit_cycles (bits.PutOnFlag k is to x) = latch_cycles to
 
--- An instruction takes as many cycles as it has words, but JMP, CALL and RET, branches and the writes of latches take more.
+-- An instruction takes as many cycles as it has words, but JMP, CALL and RET, branches and the writes of latches take more; and the start's loop of four words
+-- takes six cycles a byte, but one less for the last.
 abbrev pub more_cycles : BytePrim → ℕ
 more_cycles (Jump l) = 1
 more_cycles (Call l) = 2
@@ -293,7 +298,7 @@ more_cycles (Label l) = 0
 more_cycles (Byte op) = 0
 more_cycles (Word op) = 0
 more_cycles (Compare op) = 0
-more_cycles (Start n) = 0
+more_cycles (Start n) = 6 * n - 5
 more_cycles (AdcPoll l) = 0
 more_cycles (Bit op) = bit_cycles op
 more_cycles (Device op) = 0
