@@ -1,2 +1,3 @@
 -- What the emitting functions say of the code that they append.
 pub mod Emit
+pub mod Chip

@@ -2,5 +2,9 @@
 #![tactic(auto)]
 
 mod bits;
+pub mod chip;
+mod counts;
 mod insns;
 mod numbers;
+mod start;
+mod tables;
