@@ -84,18 +84,9 @@ fn put_if(
                     &[fetch, ldi(16, u8::from(x)), test, gives(address, 16)],
                 )
             } else {
+                let (load, store) = (loads(16, address), stores(address, 16));
                 let mask = ldi(17, mask_of(x, bit));
-                put(
-                    words,
-                    &[
-                        fetch,
-                        loads(16, address),
-                        mask,
-                        test,
-                        masked(x),
-                        stores(address, 16),
-                    ],
-                )
+                put(words, &[fetch, load, mask, test, masked(x), store])
             }
         }
         BitDest::Latch { port, bit } => put(words, &[fetch, test, latches(port, bit, x)]),

@@ -13,7 +13,7 @@ use crate::numbers::{byte_op, compare_op, word_op};
 use crate::tables::{poll, table};
 use avr_mach::{AvrInsn, AvrState};
 use byte_code::prim::{BytePrim, Prim};
-use chip_tables::mega16::{FLASH_WORDS, WAIT_CYCLES};
+use chip_tables::mega16::{self, FLASH_WORDS};
 use chip_tables::{PortBit, Settings};
 use ld_base::list::List;
 use std::alloc::{AllocError, Global};
@@ -80,7 +80,7 @@ impl Machine16 for Avr {
 
     ghost WAIT_CYCLES = { 4 };
 
-    const WAIT_CYCLES: u32 = 4;
+    const WAIT_CYCLES: u32 = mega16::WAIT_CYCLES;
 
     fn flash_words(&self) -> u32 {
         FLASH_WORDS

@@ -6,5 +6,6 @@ pub mod chip;
 mod counts;
 mod insns;
 mod numbers;
+pub mod program;
 mod start;
 mod tables;

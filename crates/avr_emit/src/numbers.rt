@@ -1,6 +1,7 @@
 //! The words of what is done to bytes and words, and of comparisons.
 
 ghost use Rattle.std.specs.Prelude.{◌≡◌, ◌+◌, ◌<◌, ◌≤◌, ◌++◌, OnOk};
+ghost use Rattle.byte_code.specs.declared.prim.WordOp.TheVariants as ops;
 ghost use Rattle.avr_mach.specs.Insn.{FieldsFit};
 ghost use Rattle.avr_code.specs.Code.{byte_code, word_code, word_loaded, negate_code, multiply_code, divide_code, compare_code, compared, words_of};
 ghost use Rattle.avr_code.specs.Target.{IsWord, ReadsWord, AdmitsWord, AdmitsCompare};
@@ -69,24 +70,34 @@ pub(crate) fn word_op(words: &mut Words, op: WordOp) -> Result<(), AllocError>
             AvrInsn::Sbc { d: 16, r: 1 },
             AvrInsn::Sbc { d: 17, r: 1 },
         ),
-        WordOp::Add { to, a, b } => {
-            load_word(words, 16, WordSource::Cells(a))?;
-            load_word(words, 18, b)?;
-            let low = AvrInsn::Add { d: 16, r: 18 };
-            let high = AvrInsn::Adc { d: 17, r: 19 };
-            put(words, &[low, high, stores(to, 16), stores(high_of(to), 17)])
-        }
-        WordOp::Subtract { to, a, b } => {
-            load_word(words, 16, a)?;
-            load_word(words, 18, b)?;
-            let low = AvrInsn::Sub { d: 16, r: 18 };
-            let high = AvrInsn::Sbc { d: 17, r: 19 };
-            put(words, &[low, high, stores(to, 16), stores(high_of(to), 17)])
-        }
+        WordOp::Add { to, a, b } => add(words, to, a, b),
+        WordOp::Subtract { to, a, b } => subtract(words, to, a, b),
         WordOp::NegateIf { to, sign } => negate_if(words, to, sign),
         WordOp::MultiplyStep => multiply_step(words),
         WordOp::DivideStep => divide_step(words),
     }
+}
+
+fn add(words: &mut Words, to: u16, a: u16, b: WordSource) -> Result<(), AllocError>
+    requires { AdmitsWord (ops.Add to a b) }
+    ensures { OnOk result (words.new ≡ words.old ++ words_of (word_code (ops.Add to a b))) }
+{
+    load_word(words, 16, WordSource::Cells(a))?;
+    load_word(words, 18, b)?;
+    let low = AvrInsn::Add { d: 16, r: 18 };
+    let high = AvrInsn::Adc { d: 17, r: 19 };
+    put(words, &[low, high, stores(to, 16), stores(high_of(to), 17)])
+}
+
+fn subtract(words: &mut Words, to: u16, a: WordSource, b: WordSource) -> Result<(), AllocError>
+    requires { AdmitsWord (ops.Subtract to a b) }
+    ensures { OnOk result (words.new ≡ words.old ++ words_of (word_code (ops.Subtract to a b))) }
+{
+    load_word(words, 16, a)?;
+    load_word(words, 18, b)?;
+    let low = AvrInsn::Sub { d: 16, r: 18 };
+    let high = AvrInsn::Sbc { d: 17, r: 19 };
+    put(words, &[low, high, stores(to, 16), stores(high_of(to), 17)])
 }
 
 /// The word takes what two instructions make of R16 and R17 and the carry, which is 1.
