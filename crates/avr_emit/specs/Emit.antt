@@ -1,5 +1,5 @@
 -- The words of instructions, and what a function asks of the bits that it reads and writes.
-use Rattle.std.specs.Prelude.{◌≡◌, ℕ, ◌+◌, ◌-◌, ◌^◌, ◌<◌, Bool, true, not, List, [], ◌∷◌, ◌++◌}
+use Rattle.std.specs.Prelude.{ℕ, ◌+◌, ◌-◌, ◌^◌, ◌<◌, Bool, true, not, List, [], ◌∷◌, ◌++◌}
 use Rattle.chip_tables.specs.Bits.{as_bit}
 use Rattle.byte_code.specs.Store.{in_byte}
 use Rattle.byte_code.specs.declared.prim.BitSource.{BitSource}

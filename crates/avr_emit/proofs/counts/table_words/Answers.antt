@@ -1,4 +1,4 @@
-use Rattle.std.proofs.Common.{arith, ◌≡◌, ◌*◌, ◌∙◌, ap, length, take}
+use Rattle.std.proofs.Common.{arith, take}
 use Rattle.std.proofs.lemmas.List.{length-take}
 use Rattle.avr_emit.proofs.Words.{size_table}
 use Rattle.avr_emit.proofs.counts.table_words.Goals as goal
