@@ -1,0 +1,62 @@
+-- The words of instructions, and what a function asks of the bits that it reads and writes.
+use Rattle.std.specs.Prelude.{ℕ, ◌+◌, ◌-◌, ◌^◌, ◌<◌, Bool, true, not, List, [], ◌∷◌, ◌++◌}
+use Rattle.chip_tables.specs.Bits.{as_bit}
+use Rattle.byte_code.specs.Store.{in_byte}
+use Rattle.byte_code.specs.declared.prim.BitSource.{BitSource}
+use Rattle.byte_code.specs.declared.prim.BitSource.TheVariants as bit
+use Rattle.byte_code.specs.declared.prim.BitDest.{BitDest}
+use Rattle.byte_code.specs.declared.prim.BitDest.TheVariants as dest
+use Rattle.byte_code.specs.declared.prim.BitOp.{BitOp}
+use Rattle.byte_code.specs.declared.prim.BitOp.TheVariants as bits
+use Rattle.byte_code.specs.declared.prim.Test.{Test}
+use Rattle.byte_code.specs.declared.prim.Test.TheVariants as test
+use Rattle.avr_mach.specs.declared.insn.AvrInsn.{AvrInsn}
+use Rattle.avr_mach.specs.Words.{size_of}
+use Rattle.avr_mach.specs.declared.insn.AvrInsn.TheVariants as insn
+use Rattle.avr_code.specs.Code.{Piece, Plain, Loads, Stores, Fetches, unless, word_stored, words_by}
+
+-- the words of instructions, in order
+abbrev pub insn_words : List AvrInsn → List ℕ
+insn_words [] = []
+insn_words (i ∷ is) = words_by (size_of i) i ++ insn_words is
+
+-- its port, where it is at one, is there
+abbrev pub HasPort : BitSource → Type 0
+HasPort (bit.Cell a b) = Unit {0}
+HasPort (bit.Level port b) = port < 4
+HasPort (bit.Latch port b) = port < 4
+
+abbrev pub HasLatch : BitDest → Type 0
+HasLatch (dest.Cell a b) = Unit {0}
+HasLatch (dest.Latch port b) = port < 4
+
+-- the same of all bits that are read or written
+abbrev pub HasPorts : BitOp → Type 0
+HasPorts (bits.Put to x) = HasLatch to
+HasPorts (bits.Copy to from inverted) = HasLatch to × HasPort from
+HasPorts (bits.PutIf from is to x) = HasPort from × HasLatch to
+HasPorts (bits.PutOnFlag kind is to x) = Unit {0}
+
+abbrev pub HasTested : Test → Type 0
+HasTested (test.Bit from is) = HasPort from
+HasTested test.LoopsOn = Unit {0}
+HasTested (test.Flag kind is) = Unit {0}
+HasTested test.NoByte = Unit {0}
+HasTested test.Sends = Unit {0}
+HasTested test.Writes = Unit {0}
+HasTested test.NoneWaits = Unit {0}
+
+-- a register becomes the bit or its opposite
+abbrev pub copied_to : ℕ → BitSource → Bool → List Piece
+copied_to d from inverted =
+    Fetches from ∷ Plain (insn.Ldi d (as_bit inverted)) ∷ unless from true ∷ Plain (insn.Ldi d (as_bit (not inverted))) ∷ []
+
+-- a bit of a cell becomes the bit or its opposite
+abbrev pub copied_in_byte : ℕ → ℕ → BitSource → Bool → List Piece
+copied_in_byte a b from inverted =
+    Fetches from ∷ Loads 16 a ∷ Plain (insn.Ldi 17 (2 ^ in_byte b)) ∷ Plain (insn.Ldi 19 (255 - 2 ^ in_byte b)) ∷ unless from (not inverted) ∷
+    Plain (insn.Or 16 17) ∷ unless from inverted ∷ Plain (insn.And 16 19) ∷ Stores a 16 ∷ []
+
+-- a word becomes what two instructions make of R16 and R17 and the carry, which is 1
+abbrev pub changed_by : ℕ → AvrInsn → AvrInsn → List Piece
+changed_by to low high = Loads 16 to ∷ Loads 17 (to + 1) ∷ Plain (insn.Bset 0) ∷ Plain low ∷ Plain high ∷ word_stored to
