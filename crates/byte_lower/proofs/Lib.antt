@@ -17,3 +17,4 @@ pub mod PinLemmas
 pub mod SampleLemmas
 pub mod AdmitLemmas
 pub mod FormedLemmas
+pub mod UseLemmas

@@ -5,6 +5,7 @@ pub mod Code
 pub mod Whole
 pub mod Placed
 pub mod Outfit
+pub mod Uses
 pub mod Samples
 -- the list of each operation
 pub mod Lists

@@ -5,6 +5,7 @@ ghost use Rattle.std.specs.List.{list_all};
 ghost use Rattle.int_code.specs.WellFormed.{IsInRange};
 ghost use Rattle.byte_code.specs.Admitted.{admits};
 ghost use Rattle.byte_lower.specs.Outfit.{outfit_of};
+ghost use Rattle.byte_lower.specs.Uses.{Uses};
 ghost use Rattle.byte_lower.specs.Layout.{room_of};
 ghost use Rattle.byte_lower.specs.Whole.{HasLabels};
 ghost use Rattle.byte_lower.specs.Emitted.{Goes};
@@ -168,6 +169,7 @@ pub fn lower_bytes(
     ensures runs { IfOk result (λ code. Carries layout.now program.now code) }
     ensures whole { IfOk result (λ code. HasLabels code) }
     ensures admitted { IfOk result (λ code. list_all (λ p. admits (outfit_of layout.now) p.prim) code ≡ true) }
+    ensures uses { IfOk result (λ code. All (λ p. Uses layout.now p.prim) code) }
 {
     match emit_program(alloc, layout, program) {
         Ok(code) => Ok(code),
