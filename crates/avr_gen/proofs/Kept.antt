@@ -36,6 +36,9 @@ use Rattle.byte_code.specs.declared.prim.WordSource.{WordSource}
 use Rattle.byte_code.specs.declared.prim.WordSource.TheVariants as operand
 use Rattle.byte_lower.proofs.BitLemmas.{in_byte_is}
 use Rattle.byte_lower.proofs.PlaceLemmas.{AvrWire, power, alone, shared, avr_view, wire_found, BitView, kept, wired, bit_view, Listed, kept_listed, low_listed, high_listed}
+use Rattle.byte_lower.proofs.NameLemmas.{whole}
+use Rattle.byte_lower.proofs.UseLemmas.{used as all_used}
+use Rattle.byte_lower.specs.Code.{code_of}
 use Rattle.byte_lower.specs.Layout.{word_cell, bit_cell, own_cells, pin_at}
 use Rattle.byte_lower.specs.Uses as used
 use Rattle.byte_lower.specs.Uses.{UsesWord, UsesByte, UsesBit, IsPinOf, UsesInTest, UsesInBit, UsesInByte, UsesInWord, UsesInCompare, Uses}
@@ -46,7 +49,7 @@ use Rattle.avr_code.specs.Stands.{IsCell, is_work, is_pin}
 use Rattle.avr_code.specs.Target.{IsWord, ReadsWord, IsWireBit, ReadsBit, WritesBit, AdmitsBit, AdmitsTest, AdmitsByte, AdmitsWord, AdmitsCompare, Admits}
 use Rattle.avr_chip.proofs.Served.{sram_at}
 use Rattle.avr_chip.specs.Layout.{AreBits}
-use Rattle.avr_gen.specs.Admission.{KeptIsAdmitted, KeptIsWhole}
+use Rattle.avr_gen.specs.Admission.{KeptIsAdmitted, KeptIsWhole, PlacedIsWhole}
 use Rattle.avr_gen.specs.Boards.{IsBoardFor}
 
 abbrev pin : ℕ → ℕ → PortBit
@@ -211,7 +214,7 @@ module _ (o : Layout) (board : Board) (fits : IsBoardFor o board) where
   on_compare (compares.Equal a b) h = (word a h.0, reads_word b h.1)
   on_compare (compares.Below a n) h = (word a h.0, h.1)
 
-  cleared : (n : ℕ) → n ≡ ram_need o.plan.sizes → n ≤ 960
+  pub cleared : (n : ℕ) → n ≡ ram_need o.plan.sizes → n ≤ 960
   cleared n e =
       let room : ram_need o.plan.sizes ≤ 960 = subst (λ (t : Target). ram_need o.plan.sizes ≤ ram_size t) fits.layout.target o.plan.ram_fits in
       subst (λ m. m ≤ 960) (sym e) room
@@ -249,3 +252,6 @@ kept_is_whole o board fits code labels uses = record {
   admitted = λ i p e. admitted o board fits p.prim (at_place (λ q. Uses o q.prim) code uses i p e);
   labels = labels.labels;
 }
+
+pub placed_is_whole : PlacedIsWhole
+placed_is_whole o board fits p can = kept_is_whole o board fits (code_of o p) (whole o p can) (all_used o p can)

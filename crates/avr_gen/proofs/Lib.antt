@@ -1,2 +1,4 @@
 pub mod Kept
 pub mod Legal
+pub mod Weights
+pub mod Costs

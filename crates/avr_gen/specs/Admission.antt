@@ -7,9 +7,11 @@ use Rattle.ladder_tree.specs.declared.project.Project.{Project}
 use Rattle.ladder_rules.specs.Assigned.{name_bit}
 use Rattle.ladder_rules.specs.Settings.{settings_of}
 use Rattle.ladder_rules.specs.Verdict.{rule}
+use Rattle.int_code.specs.declared.op.IntProgram.{IntProgram}
 use Rattle.byte_code.specs.declared.prim.BytePrim.{BytePrim}
 use Rattle.byte_code.specs.declared.prim.Paced.{Paced}
 use Rattle.target_core.specs.Whole.{IsWhole}
+use Rattle.byte_lower.specs.Code.{CanPlace, code_of}
 use Rattle.byte_lower.specs.Uses.{Uses}
 use Rattle.byte_lower.specs.Whole.{HasLabels}
 use Rattle.byte_lower.specs.declared.layout.Layout.{Layout}
@@ -25,6 +27,10 @@ KeptIsAdmitted = (o : Layout) (board : Board) → IsBoardFor o board → (p : By
 abbrev pub KeptIsWhole : Type 0
 KeptIsWhole =
     (o : Layout) (board : Board) → IsBoardFor o board → (code : List Paced) → HasLabels code → All (λ q. Uses o q.prim) code → IsWhole (avr_target board) code
+
+-- and so is the code of a program that the layout has the places for
+abbrev pub PlacedIsWhole : Type 0
+PlacedIsWhole = (o : Layout) (board : Board) → IsBoardFor o board → (p : IntProgram) → CanPlace o p → IsWhole (avr_target board) (code_of o p)
 
 -- a board with these outputs, and these settings of its devices
 abbrev pub board_of : Layout → Settings → Board

@@ -1,3 +1,4 @@
 -- what a reader of the promises must believe
 pub mod Boards
 pub mod Admission
+pub mod Sums

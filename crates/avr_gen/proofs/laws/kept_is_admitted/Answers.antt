@@ -6,3 +6,6 @@ returns-clause-admitted c = kept.kept_is_admitted
 
 pub returns-clause-whole : goal.returns-clause-whole
 returns-clause-whole c = kept.kept_is_whole
+
+pub returns-clause-placed : goal.returns-clause-placed
+returns-clause-placed c = kept.placed_is_whole
