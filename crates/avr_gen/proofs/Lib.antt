@@ -2,3 +2,4 @@ pub mod Kept
 pub mod Legal
 pub mod Weights
 pub mod Costs
+pub mod Carry

@@ -4,6 +4,7 @@ use Rattle.std.proofs.lemmas.List.Sums.{sum_by-cons, sum_by-append}
 use Rattle.std.specs.Prelude.{if◌then◌else◌, int_lt, sum_by}
 use Rattle.std.specs.Ordering.{int_eq}
 use Rattle.chip_tables.specs.Memory.{ram_size}
+use Rattle.chip_tables.specs.declared.scratch.Scratch.{Scratch}
 use Rattle.chip_tables.specs.declared.target.Target.{Target}
 use Rattle.chip_tables.specs.declared.target.Target.TheVariants.{F628, F877, Mega16, Interp, AnsiC}
 use Rattle.mem_plan.specs.Needs.{ram_need}
@@ -16,6 +17,7 @@ use Rattle.int_code.specs.declared.op.NumSource.TheVariants.{V, N}
 use Rattle.byte_code.specs.declared.prim.BytePrim.{BytePrim}
 use Rattle.byte_code.specs.declared.prim.BytePrim.TheVariants.{Start, CyclePoll, AdcPoll, Label, Jump, Call, Return, JumpWhere, Bit, Byte, Word, Compare, Device, Eeprom, Table}
 use Rattle.byte_code.specs.declared.prim.Paced.{Paced}
+use Rattle.byte_routines.specs.Routines.{multiply, divide}
 use Rattle.byte_lower.specs.Code.{CanPlace, booted, polling, start_values, code_of}
 use Rattle.byte_lower.specs.Lists.{paced, label_of, list_of, lists_of, top_of, labels_behind, unless_less, unless_equal, sum, difference, move, number, guard_of, put_where, joined}
 use Rattle.byte_lower.specs.declared.guard.Guard.{Guard}
@@ -82,6 +84,13 @@ room_small F877 = omega arith
 room_small Mega16 = omega arith
 room_small Interp = omega arith
 room_small AnsiC = omega arith
+
+-- the routines, by how often they are called in a cycle
+pub multiply_heft : (s : Scratch) (calls : ℕ) → sum_by heft (multiply s calls) ≡ 896 * calls + 224
+multiply_heft s calls = omega arith
+
+pub divide_heft : (s : Scratch) (calls : ℕ) → sum_by heft (divide s calls) ≡ 1952 * calls + 512
+divide_heft s calls = omega arith
 
 module _ (o : Layout) where
   less : (w u : NumSource) (l : ℕ) → sum_by heft (unless_less o w u l) ≤ 128

@@ -2,3 +2,4 @@
 pub mod Boards
 pub mod Admission
 pub mod Sums
+pub mod Carried
