@@ -45,13 +45,14 @@ weight (Eeprom op) = 32
 abbrev pub heft : Paced → ℕ
 heft q = weight q.prim * (q.turns + q.boot + 1)
 
-none : 0 ≤ 128
+-- the list of each operation weighs 1400 at most, which leaves room for that of a look-up
+none : 0 ≤ 1400
 none = omega arith
 
-one : 64 ≤ 128
+one : 64 ≤ 1400
 one = omega arith
 
-two : 128 ≤ 128
+two : 128 ≤ 1400
 two = omega arith
 
 either_list : (b : Bool) (ps qs : List Paced) (n : ℕ) → sum_by heft ps ≤ n → sum_by heft qs ≤ n → sum_by heft (if b then ps else qs) ≤ n
@@ -63,13 +64,13 @@ joined_list : (x : Option Guard) (one_list : Guard → List Paced) (other : List
 joined_list (Some g) one_list other n h f = h g
 joined_list None one_list other n h f = f
 
-add_guard : (s r n : ℕ) → s ≡ 64 + r → r ≤ 128 * n → s ≤ 128 * suc n
+add_guard : (s r n : ℕ) → s ≡ 64 + r → r ≤ 1400 * n → s ≤ 1400 * suc n
 add_guard s r n e h = omega (arith, e, h)
 
-add_list : (s l r n : ℕ) → s ≡ l + r → l ≤ 128 → r ≤ 128 * n → s ≤ 128 * suc n
+add_list : (s l r n : ℕ) → s ≡ l + r → l ≤ 1400 → r ≤ 1400 * n → s ≤ 1400 * suc n
 add_list s l r n e h g = omega (arith, e, h, g)
 
-add_none : (r n : ℕ) → r ≤ 128 * n → r ≤ 128 * suc n
+add_none : (r n : ℕ) → r ≤ 1400 * n → r ≤ 1400 * suc n
 add_none r n h = omega (arith, h)
 
 add_start : (s r n : ℕ) → s ≡ 64 + r → r ≤ 64 * n → s ≤ 64 * suc n
@@ -93,31 +94,31 @@ pub divide_heft : (s : Scratch) (calls : ℕ) → sum_by heft (divide s calls) �
 divide_heft s calls = omega arith
 
 module _ (o : Layout) where
-  less : (w u : NumSource) (l : ℕ) → sum_by heft (unless_less o w u l) ≤ 128
+  less : (w u : NumSource) (l : ℕ) → sum_by heft (unless_less o w u l) ≤ 1400
   less (V a) (V b) l = two
   less (V a) (N m) l = two
-  less (N n) (V b) l = either_list (int_lt n (pos 32767)) _ _ 128 two one
-  less (N n) (N m) l = either_list (int_lt n m) _ _ 128 none one
+  less (N n) (V b) l = either_list (int_lt n (pos 32767)) _ _ 1400 two one
+  less (N n) (N m) l = either_list (int_lt n m) _ _ 1400 none one
 
-  equal : (w u : NumSource) (l : ℕ) → sum_by heft (unless_equal o w u l) ≤ 128
+  equal : (w u : NumSource) (l : ℕ) → sum_by heft (unless_equal o w u l) ≤ 1400
   equal (V a) (V b) l = two
   equal (V a) (N m) l = two
   equal (N n) (V b) l = two
-  equal (N n) (N m) l = either_list (int_eq n m) _ _ 128 none one
+  equal (N n) (N m) l = either_list (int_eq n m) _ _ 1400 none one
 
-  sums : (v : ℕ) (w u : NumSource) → sum_by heft (sum o v w u ∷ []) ≤ 128
+  sums : (v : ℕ) (w u : NumSource) → sum_by heft (sum o v w u ∷ []) ≤ 1400
   sums v (V a) (V b) = one
   sums v (V a) (N m) = one
   sums v (N n) (V b) = one
   sums v (N n) (N m) = one
 
-  differences : (v : ℕ) (w u : NumSource) → sum_by heft (difference o v w u ∷ []) ≤ 128
+  differences : (v : ℕ) (w u : NumSource) → sum_by heft (difference o v w u ∷ []) ≤ 1400
   differences v (V a) (V b) = one
   differences v (V a) (N m) = one
   differences v (N n) (V b) = one
   differences v (N n) (N m) = one
 
-  list : (op : IntOp) (l top : ℕ) → sum_by heft (list_of o op l top) ≤ 128
+  list : (op : IntOp) (l top : ℕ) → sum_by heft (list_of o op l top) ≤ 1400
   list (Set b) l top = one
   list (Clr b) l top = one
   list (Cpy b f) l top = one
@@ -136,7 +137,7 @@ module _ (o : Layout) where
   list (Dec v) l top = one
   list op l top = none
 
-  lists : (passed : ℕ) (ops : List IntOp) (k : ℕ) (labels : List ℕ) → sum_by heft (lists_of o passed ops k labels) ≤ 128 * length ops
+  lists : (passed : ℕ) (ops : List IntOp) (k : ℕ) (labels : List ℕ) → sum_by heft (lists_of o passed ops k labels) ≤ 1400 * length ops
   lists zero [] k labels = omega arith
   lists (suc passed) [] k labels = omega arith
   lists (suc passed) (op ∷ ops) k labels = add_none (sum_by heft (lists_of o passed ops (suc k) labels)) (length ops) (lists passed ops (suc k) labels)
@@ -145,7 +146,7 @@ module _ (o : Layout) where
       let rest = lists_of o zero ops (suc k) (labels_behind (shape_of op) k labels) in
       let behind = lists_of o 2 ops (suc k) labels in
       joined_list (guard_of (op ∷ ops)) (λ g. put_where o g ∷ lists_of o 2 ops (suc k) labels)
-      (list_of o op (label_of k) (top_of labels) ++ lists_of o zero ops (suc k) (labels_behind (shape_of op) k labels)) (128 * suc (length ops))
+      (list_of o op (label_of k) (top_of labels) ++ lists_of o zero ops (suc k) (labels_behind (shape_of op) k labels)) (1400 * suc (length ops))
       (λ g. add_guard (sum_by heft (put_where o g ∷ behind)) (sum_by heft behind) (length ops) (sum_by-cons heft (put_where o g) behind)
       (lists 2 ops (suc k) labels))
       (add_list (sum_by heft (own ++ rest)) (sum_by heft own) (sum_by heft rest) (length ops) (sum_by-append heft own rest)
@@ -161,7 +162,7 @@ module _ (o : Layout) where
       (starts ns (suc v)))
 
   -- the start, the start values, the poll and its label, the lists, and the jump back
-  in_all : (s a b c starts ops variables : ℕ) → s ≡ 4096 + (a + (96 + (96 + (b + c)))) → c ≡ 64 → a ≤ 64 * starts → b ≤ 128 * ops → starts ≤ variables →
+  in_all : (s a b c starts ops variables : ℕ) → s ≡ 4096 + (a + (96 + (96 + (b + c)))) → c ≡ 64 → a ≤ 64 * starts → b ≤ 1400 * ops → starts ≤ variables →
       2 * variables ≤ 8192 → ops ≤ 1000000 → s < 2 ^ 32
   in_all s a b c starts ops variables e f h g i j k = omega (arith, e, f, h, g, i, j, k)
 

@@ -1,5 +1,5 @@
 -- A program's code uses of its chip only what its layout has.
-use Rattle.std.proofs.Common.{◌≡◌, ℕ, zero, suc, ◌+◌, ◌<◌, ◌≤◌, inl, inr, Bool, true, false, List, [], ◌∷◌, ◌++◌, length, Option, Some, None, ℤ, pos, refl, arith}
+use Rattle.std.proofs.Common.{◌≡◌, ℕ, zero, suc, ◌+◌, ◌<◌, ◌≤◌, inl, inr, Bool, true, false, List, [], ◌∷◌, ◌++◌, length, drop, Option, Some, None, ℤ, pos, refl, arith}
 use Rattle.std.specs.Prelude.{if◌then◌else◌, int_lt, All}
 use Rattle.std.specs.Ordering.{int_eq}
 use Rattle.std.proofs.lemmas.List.Elements.{All-head, All-tail, All-nil, All-cons}
@@ -120,62 +120,43 @@ module _ (o : Layout) where
       (every_on IsUsed (list_of o op (label_of k) (top_of labels)) (lists_of o zero ops (suc k) (labels_behind (shape_of op) k labels))
       own (lists zero ops (suc k) (labels_behind (shape_of op) k labels) built_behind range_behind))
 
-  -- the routines use the compiler's own words, their bytes, the count and the sign
+  -- the compiler's own words, their bytes, the count and the sign
+  left : UsesWord o (own_cells o.plan.target).left
+  left = inr (inl refl)
+
+  right : UsesWord o (own_cells o.plan.target).right
+  right = inr (inr (inl refl))
+
+  outcome : UsesWord o (own_cells o.plan.target).outcome
+  outcome = inr (inr (inr refl))
+
+  count : UsesByte o (own_cells o.plan.target).count
+  count = inr (inl refl)
+
+  sign : UsesByte o (own_cells o.plan.target).sign
+  sign = inr (inr refl)
+
+  high : (w : ℕ) → UsesWord o w → UsesByte o (w + 1)
+  high w h = inl (w, h, inr refl)
+
+  none : ReadsWord o zero_word
+  none = (omega arith, omega arith)
+
+  -- the routines use these alone
   pub multiply_used : (calls : ℕ) → Every IsUsed (multiply (own_cells o.plan.target) calls)
-  multiply_used calls =
-      let outcome : UsesWord o (own_cells o.plan.target).outcome = inr (inr (inr refl)) in
-      (tt, ((outcome, (omega arith, omega arith)), ((inr (inl refl), omega arith), (tt, (tt, (tt, (tt, tt)))))))
+  multiply_used calls = (tt, ((outcome, none), ((count, omega arith), (tt, (tt, (tt, (tt, tt)))))))
 
   pub divide_used : (calls : ℕ) → Every IsUsed (divide (own_cells o.plan.target) calls)
   divide_used calls = every_on IsUsed (divide_front (own_cells o.plan.target) calls) (divide_steps (own_cells o.plan.target) calls) front steps
     where
-      left : UsesWord o (own_cells o.plan.target).left
-      left = inr (inl refl)
-
-      right : UsesWord o (own_cells o.plan.target).right
-      right = inr (inr (inl refl))
-
-      outcome : UsesWord o (own_cells o.plan.target).outcome
-      outcome = inr (inr (inr refl))
-
-      high : (w : ℕ) → UsesWord o w → UsesByte o (w + 1)
-      high w h = inl (w, h, inr refl)
-
-      sign : UsesByte o (own_cells o.plan.target).sign
-      sign = inr (inr refl)
-
-      zero : ReadsWord o zero_word
-      zero = (omega arith, omega arith)
+      zeros : Every IsUsed (drop 4 (divide_front (own_cells o.plan.target) calls))
+      zeros = ((outcome, none), ((count, omega arith), ((right, none), (tt, tt))))
 
       front : Every IsUsed (divide_front (own_cells o.plan.target) calls)
-      front = (
-        tt,
-        (
-          (sign, high _ left, high _ right),
-          (
-            (left, high _ left),
-            (
-              (right, high _ right),
-              (
-                (outcome, zero),
-                (
-                  (inr (inl refl), omega arith),
-                  (
-                    (right, zero),
-                    (
-                      tt,
-                      tt,
-                    ),
-                  ),
-                ),
-              ),
-            ),
-          ),
-        ),
-      )
+      front = (tt, ((sign, high _ left, high _ right), ((left, high _ left), ((right, high _ right), zeros))))
 
       steps : Every IsUsed (divide_steps (own_cells o.plan.target) calls)
-      steps = (tt, (tt, (tt, ((left, sign), (tt, (tt, ((left, zero), (tt, tt))))))))
+      steps = (tt, (tt, (tt, ((left, sign), (tt, (tt, ((left, none), (tt, tt))))))))
 
   starts : (ns : List ℤ) (v : ℕ) → v + length ns ≤ o.plan.sizes.variables → Every IsUsed (start_values o ns v)
   starts [] v h = tt
