@@ -7,11 +7,7 @@ use Rattle.chip_tables.specs.declared.pins.PortBit.{PortBit}
 use Rattle.byte_code.specs.Store.{with_bit, in_byte}
 use Rattle.byte_lower.proofs.BitLemmas.{below_8, bit_put, bit_kept, in_byte_is}
 use Rattle.avr_code.specs.Code.{direction}
-
--- each is a bit of a byte
-abbrev pub AreBits : List PortBit → Type 0
-AreBits [] = Unit {0}
-AreBits (p ∷ ps) = (p.bit < 8) × AreBits ps
+use Rattle.avr_chip.specs.Layout.{AreBits}
 
 no_bit : (b : ℕ) → b < 8 → bit_of 0 b ≡ false
 no_bit = below_8 (λ b. bit_of 0 b ≡ false) refl refl refl refl refl refl refl refl

@@ -26,17 +26,11 @@ use Rattle.avr_code.specs.Target.{avr_target}
 use Rattle.chip_compile.specs.Serves.{HoldsStore, StandsFresh, Serves}
 use Rattle.avr_chip.specs.Machine.{view_of, IsReset, avr_chip}
 use Rattle.avr_chip.proofs.Cells.{cells_of, has_cells}
-use Rattle.avr_chip.proofs.Directions.{AreBits, driven}
-
--- the layout is one for this chip, with these outputs, at pins of its four ports
-pub record IsAvrLayout (board : Board) (o : Layout) : Type 0 where
-  pub target : o.plan.target ≡ Mega16
-  pub outputs : board.outputs ≡ o.outputs
-  pub ports : (k : ℕ) → k < length o.outputs → (pin_at o.outputs k).port < 4
-  pub bits : AreBits o.outputs
+use Rattle.avr_chip.proofs.Directions.{driven}
+use Rattle.avr_chip.specs.Layout.{IsAvrLayout}
 
 -- the bytes of RAM are in the SRAM, in front of the compiler's own
-sram_at : (i a : ℕ) → ram_address Mega16 i ≡ Some a → (96 ≤ a) × (a < 1056)
+pub sram_at : (i a : ℕ) → ram_address Mega16 i ≡ Some a → (96 ≤ a) × (a < 1056)
 sram_at i a e = by (nat_lt i 960) refl
   where
     by : (b : Bool) → nat_lt i 960 ≡ b → (96 ≤ a) × (a < 1056)

@@ -1,2 +1,3 @@
 -- what a reader of the promises must believe
 pub mod Machine
+pub mod Layout

@@ -19,3 +19,4 @@ pub mod SampleLemmas
 pub mod AdmitLemmas
 pub mod FormedLemmas
 pub mod ListedLemmas
+pub mod UseLemmas

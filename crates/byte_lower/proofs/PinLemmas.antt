@@ -30,14 +30,14 @@ one_more f pins names k name b at e g = subst (λ n. map Some (pins ++ b ∷ [])
         ap (λ y. y ∷ map Some (ps ++ b ∷ [])) first ∙ ap (λ ys. f x ∷ ys) (more ps xs n h rest)
 
 -- a pin is that of its name
-there : (f : List ℕ → Option PortBit) (pins : List PortBit) (names : List (List ℕ)) (k : ℕ) → map Some pins ≡ map f names → k < length pins →
+pub there : (f : List ℕ → Option PortBit) (pins : List PortBit) (names : List (List ℕ)) (k : ℕ) → map Some pins ≡ map f names → k < length pins →
     f (slice_index_or names k []) ≡ Some (slice_index_or pins k zero_pin)
 there f [] names k e h = absurd (omega (arith, h))
 there f (p ∷ pins) [] k e h = absurd (cc)
 there f (p ∷ pins) (x ∷ names) zero e h = cc
 there f (p ∷ pins) (x ∷ names) (suc k) e h = let rest : map Some pins ≡ map f names = cc in there f pins names k rest (omega (arith, h))
 
-as_many : (f : List ℕ → Option PortBit) (pins : List PortBit) (names : List (List ℕ)) → map Some pins ≡ map f names → length pins ≡ length names
+pub as_many : (f : List ℕ → Option PortBit) (pins : List PortBit) (names : List (List ℕ)) → map Some pins ≡ map f names → length pins ≡ length names
 as_many f [] [] e = refl
 as_many f [] (x ∷ names) e = absurd (cc)
 as_many f (p ∷ pins) [] e = absurd (cc)

@@ -5,6 +5,7 @@ pub mod Code
 pub mod Whole
 pub mod Placed
 pub mod Outfit
+pub mod Uses
 pub mod Samples
 pub mod Listed
 -- the list of each operation

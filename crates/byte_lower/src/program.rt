@@ -6,6 +6,7 @@ ghost use Rattle.int_code.specs.WellFormed.{IsInRange};
 ghost use Rattle.byte_code.specs.Admitted.{admits};
 ghost use Rattle.byte_code.specs.Lowered.{IsListed};
 ghost use Rattle.byte_lower.specs.Outfit.{outfit_of};
+ghost use Rattle.byte_lower.specs.Uses.{Uses};
 ghost use Rattle.byte_lower.specs.Layout.{room_of};
 ghost use Rattle.byte_lower.specs.Listed.{operations, starts_in};
 ghost use Rattle.byte_lower.specs.Whole.{HasLabels};
@@ -172,6 +173,7 @@ pub fn lower_bytes(
     ensures whole { IfOk result (λ code. HasLabels code) }
     ensures listed { IfOk result (λ code. IsListed layout.now.plan.target (starts_in program.now.starts) [] (operations layout.now program.now) code) }
     ensures admitted { IfOk result (λ code. list_all (λ p. admits (outfit_of layout.now) p.prim) code ≡ true) }
+    ensures uses { IfOk result (λ code. All (λ p. Uses layout.now p.prim) code) }
 {
     match emit_program(alloc, layout, program) {
         Ok(code) => Ok(code),

@@ -3,3 +3,4 @@ pub mod HistoryLemmas
 pub mod SeenLemmas
 pub mod ShowLemmas
 pub mod Carried
+pub mod Placed

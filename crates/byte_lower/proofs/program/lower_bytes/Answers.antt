@@ -1,10 +1,13 @@
 use Rattle.std.proofs.Common.{◌≡◌, List, [], true, sym, subst}
 use Rattle.std.specs.List.{list_all}
+use Rattle.std.specs.Prelude.{All}
 use Rattle.byte_code.specs.Admitted.{admits}
 use Rattle.byte_code.specs.Lowered.{IsListed}
 use Rattle.byte_code.specs.declared.prim.Paced.{Paced}
 use Rattle.byte_lower.proofs.AdmitLemmas.{admitted}
 use Rattle.byte_lower.specs.Outfit.{outfit_of}
+use Rattle.byte_lower.specs.Uses.{Uses}
+use Rattle.byte_lower.proofs.UseLemmas.{used}
 use Rattle.byte_lower.proofs.CycleLemmas.{carries}
 use Rattle.byte_lower.proofs.NameLemmas.{whole}
 use Rattle.byte_lower.specs.Listed.{operations, starts_in}
@@ -30,3 +33,8 @@ pub returns-in-Ok-clause-listed : goal.returns-in-Ok-clause-listed
 returns-in-Ok-clause-listed c =
     subst (λ (code : List Paced). IsListed c.args.layout.now.plan.target (starts_in c.args.program.now.starts) [] (operations c.args.layout.now c.args.program.now) code)
     (sym c.in-Ok.ensures) (listed c.args.layout.now c.args.layout.now.chip c.args.layout.now.plan.ram_fits c.args.program.now c.requires)
+
+pub returns-in-Ok-clause-uses : goal.returns-in-Ok-clause-uses
+returns-in-Ok-clause-uses c =
+    subst (λ (code : List Paced). All (λ p. Uses c.args.layout.now p.prim) code) (sym c.in-Ok.ensures)
+    (used c.args.layout.now c.args.program.now c.requires)

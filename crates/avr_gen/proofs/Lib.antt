@@ -1,0 +1,5 @@
+pub mod Kept
+pub mod Legal
+pub mod Weights
+pub mod Costs
+pub mod Carry

@@ -1,0 +1,5 @@
+-- what a reader of the promises must believe
+pub mod Boards
+pub mod Admission
+pub mod Sums
+pub mod Carried
