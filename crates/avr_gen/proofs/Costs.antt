@@ -1,5 +1,5 @@
 -- The words and cycles of the ATmega16's code for a primitive are within its weight.
-use Rattle.std.proofs.Common.{◌≡◌, ℕ, zero, suc, ◌+◌, ◌*◌, ◌^◌, ◌<◌, ◌≤◌, Bool, true, false, List, [], ◌∷◌, length, take, refl, arith}
+use Rattle.std.proofs.Common.{◌≡◌, ℕ, zero, suc, ◌+◌, ◌*◌, ◌^◌, ◌<◌, ◌≤◌, Bool, true, false, List, [], ◌∷◌, ◌++◌, length, take, refl, arith}
 use Rattle.std.proofs.lemmas.List.{length-take}
 use Rattle.std.proofs.lemmas.List.Elements.{All-head, All-tail}
 use Rattle.std.proofs.lemmas.List.Sums.{sum_by-cons}
@@ -151,16 +151,16 @@ table_few : (i : ℕ) (xs : List ℕ) → length (table_code i xs) ≡ 4 * lengt
 table_few i [] = refl
 table_few i (x ∷ xs) = let rest = table_few (i + 1) xs in omega (arith, rest)
 
-clear_few : (k i : ℕ) (rest : List Piece) → length (clear_code k i rest) ≡ k + length rest
-clear_few zero i rest = omega arith
-clear_few (suc k) i rest = let more = clear_few k (i + 1) rest in omega (arith, more)
+start_few : (board : Board) (n : ℕ) → length (clear_code n ++ setup_code board) ≤ 33
+start_few board zero = omega arith
+start_few board (suc k) = omega arith
 
 module _ (o : Layout) (board : Board) (fits : IsBoardFor o board) where
   -- two words for each instruction at most, and what some take in more
   pieces_light : (p : BytePrim) → Uses o p → 2 * length (code_of board p []) + more_cycles p ≤ weight p
   pieces_light (Start n) h =
       let few = cleared o board fits n h in
-      let all : length (clear_code n 0 (setup_code board)) ≡ n + 22 = clear_few n 0 (setup_code board) in
+      let all = start_few board n in
       omega (arith, few, all)
   pieces_light (CyclePoll l) h = omega arith
   pieces_light (AdcPoll l) h = omega arith

@@ -7,10 +7,11 @@ use Rattle.chip_tables.specs.Memory.{ram_size}
 use Rattle.chip_tables.specs.declared.scratch.Scratch.{Scratch}
 use Rattle.chip_tables.specs.declared.target.Target.{Target}
 use Rattle.chip_tables.specs.declared.target.Target.TheVariants.{F628, F877, Mega16, Interp, AnsiC}
+use Rattle.ladder_meaning.specs.Numbers.{value_at}
 use Rattle.mem_plan.specs.Needs.{ram_need}
 use Rattle.int_code.specs.Shapes.{shape_of}
 use Rattle.int_code.specs.declared.op.IntOp.{IntOp}
-use Rattle.int_code.specs.declared.op.IntOp.TheVariants.{Set, Clr, Cpy, Not, Ifs, Ifc, Iflt, Ifeq, Els, Fi, Lit, Mov, Add, Sub, Inc, Dec}
+use Rattle.int_code.specs.declared.op.IntOp.TheVariants.{Set, Clr, Cpy, Not, Ifs, Ifc, Iflt, Ifeq, Els, Fi, Lit, Mov, Add, Sub, Inc, Dec, Tab}
 use Rattle.int_code.specs.declared.op.IntProgram.{IntProgram}
 use Rattle.int_code.specs.declared.op.NumSource.{NumSource}
 use Rattle.int_code.specs.declared.op.NumSource.TheVariants.{V, N}
@@ -19,13 +20,13 @@ use Rattle.byte_code.specs.declared.prim.BytePrim.TheVariants.{Start, CyclePoll,
 use Rattle.byte_code.specs.declared.prim.Paced.{Paced}
 use Rattle.byte_routines.specs.Routines.{multiply, divide}
 use Rattle.byte_lower.specs.Code.{CanPlace, booted, polling, start_values, code_of}
-use Rattle.byte_lower.specs.Lists.{paced, label_of, list_of, lists_of, top_of, labels_behind, unless_less, unless_equal, sum, difference, move, number, guard_of, put_where, joined}
+use Rattle.byte_lower.specs.Lists.{paced, label_of, list_of, lists_of, top_of, labels_behind, unless_less, unless_equal, sum, difference, move, number, guard_of, look_up, put_known, put_where, joined}
 use Rattle.byte_lower.specs.declared.guard.Guard.{Guard}
 use Rattle.byte_lower.specs.declared.layout.Layout.{Layout}
 
 -- the most words, and the most cycles
 abbrev pub weight : BytePrim → ℕ
-weight (Start n) = 2048
+weight (Start n) = 8192
 weight (Table values l) = 512
 weight (CyclePoll l) = 32
 weight (AdcPoll l) = 32
@@ -118,6 +119,16 @@ module _ (o : Layout) where
   differences v (N n) (V b) = one
   differences v (N n) (N m) = one
 
+  known : (v : ℕ) (x : Option ℤ) → sum_by heft (put_known o v x) ≤ 1400
+  known v None = none
+  known v (Some n) = one
+
+  looked : (v : ℕ) (w : NumSource) (values : List ℤ) (l : ℕ) → sum_by heft (look_up o v w values l) ≤ 1400
+  looked v (N i) values l = known v (value_at values i)
+  looked v (V w) [] l = none
+  looked v (V w) (n ∷ []) l = omega arith
+  looked v (V w) (n ∷ m ∷ ns) l = omega arith
+
   list : (op : IntOp) (l top : ℕ) → sum_by heft (list_of o op l top) ≤ 1400
   list (Set b) l top = one
   list (Clr b) l top = one
@@ -135,6 +146,7 @@ module _ (o : Layout) where
   list (Sub v w u) l top = differences v w u
   list (Inc v) l top = one
   list (Dec v) l top = one
+  list (Tab v w values) l top = looked v w values l
   list op l top = none
 
   lists : (passed : ℕ) (ops : List IntOp) (k : ℕ) (labels : List ℕ) → sum_by heft (lists_of o passed ops k labels) ≤ 1400 * length ops
@@ -162,7 +174,7 @@ module _ (o : Layout) where
       (starts ns (suc v)))
 
   -- the start, the start values, the poll and its label, the lists, and the jump back
-  in_all : (s a b c starts ops variables : ℕ) → s ≡ 4096 + (a + (96 + (96 + (b + c)))) → c ≡ 64 → a ≤ 64 * starts → b ≤ 1400 * ops → starts ≤ variables →
+  in_all : (s a b c starts ops variables : ℕ) → s ≡ 16384 + (a + (96 + (96 + (b + c)))) → c ≡ 64 → a ≤ 64 * starts → b ≤ 1400 * ops → starts ≤ variables →
       2 * variables ≤ 8192 → ops ≤ 1000000 → s < 2 ^ 32
   in_all s a b c starts ops variables e f h g i j k = omega (arith, e, f, h, g, i, j, k)
 
@@ -172,7 +184,7 @@ module _ (o : Layout) where
       let own = lists_of o 0 p.ops 0 [] in
       let last = paced (Jump 0) ∷ [] in
       let behind = polling (Label 0) ∷ polling (CyclePoll 0) ∷ (own ++ last) in
-      let e : sum_by heft (code_of o p) ≡ 4096 + sum_by heft (first ++ behind) =
+      let e : sum_by heft (code_of o p) ≡ 16384 + sum_by heft (first ++ behind) =
       sum_by-cons heft (booted (Start (ram_need o.plan.sizes))) (first ++ behind) in
       let f = sum_by-append heft first behind in
       let g : sum_by heft behind ≡ 96 + sum_by heft (polling (CyclePoll 0) ∷ (own ++ last)) =

@@ -1,6 +1,7 @@
 -- The code of a program has and begins no more than the public list allows to its operations.
-use Rattle.std.proofs.Common.{◌≡◌, inl, inr, ℕ, suc, ◌+◌, ◌-◌, ◌*◌, ◌/◌, ◌<◌, ◌≤◌, Bool, true, false, List, [], ◌∷◌, ◌++◌, map, Option, Some, None, ℤ, pos, refl, sym, ap, ap₂, subst, ◌∙◌, arith, append-nil}
+use Rattle.std.proofs.Common.{◌≡◌, inl, inr, ℕ, suc, ◌+◌, ◌-◌, ◌*◌, ◌/◌, ◌<◌, ◌≤◌, Bool, true, false, List, [], ◌∷◌, ◌++◌, length, map, Option, Some, None, ℤ, pos, negsuc, refl, sym, ap, ap₂, subst, ◌∙◌, arith, append-nil}
 use Rattle.std.proofs.lemmas.Bool.Decides.{nat_tests}
+use Rattle.std.proofs.lemmas.List.{length-map}
 use Rattle.std.proofs.lemmas.List.Elements.{All-head, All-tail}
 use Rattle.std.proofs.lemmas.List.Sums.{sum_by-append, sum_by-cons}
 use Rattle.std.proofs.lemmas.List.Concat.{flat_map-append}
@@ -13,6 +14,8 @@ use Rattle.chip_tables.specs.declared.target.Target.{Target}
 use Rattle.chip_tables.specs.declared.target.Target.TheVariants.{F628, F877, Mega16, Interp, AnsiC}
 use Rattle.mem_plan.specs.Needs.{ram_need}
 use Rattle.mem_plan.specs.Places.{IsChip}
+use Rattle.ladder_meaning.specs.Device.{word_of}
+use Rattle.ladder_meaning.specs.Numbers.{value_at}
 use Rattle.int_code.specs.Kinds.{Kind, kinds, is_wire, reads_wire}
 use Rattle.int_code.specs.Kinds as op
 use Rattle.int_code.specs.Shapes.{shape_of}
@@ -22,7 +25,7 @@ use Rattle.int_code.specs.declared.op.BitDest.TheVariants as opdest
 use Rattle.int_code.specs.declared.op.BitSource as read
 use Rattle.int_code.specs.declared.op.BitSource.TheVariants as opsource
 use Rattle.int_code.specs.declared.op.IntOp.{IntOp}
-use Rattle.int_code.specs.declared.op.IntOp.TheVariants.{Set, Clr, Cpy, Not, Ifs, Ifc, Iflt, Ifeq, Els, Fi, Lit, Mov, Add, Sub, Inc, Dec}
+use Rattle.int_code.specs.declared.op.IntOp.TheVariants.{Set, Clr, Cpy, Not, Ifs, Ifc, Iflt, Ifeq, Els, Fi, Lit, Mov, Add, Sub, Inc, Dec, Tab}
 use Rattle.int_code.specs.declared.op.IntProgram.{IntProgram}
 use Rattle.int_code.specs.declared.op.NumSource.{NumSource}
 use Rattle.int_code.specs.declared.op.NumSource.TheVariants.{V, N}
@@ -39,7 +42,7 @@ use Rattle.byte_lower.proofs.PlaceLemmas.{BitView, kept, wired, bit_view, IsIn, 
 use Rattle.byte_lower.specs.Code.{CanPlace, booted, start_values, code_of}
 use Rattle.byte_lower.specs.Layout.{bit_cell, dest_of, source_of, room_of}
 use Rattle.byte_lower.specs.Listed.{operation_of, operations, starts_in}
-use Rattle.byte_lower.specs.Lists.{is_built, label_of, list_of, lists_of, top_of, labels_behind, unless_less, unless_equal, sum, difference, move, number, guard_of, guard_by, put_where, joined}
+use Rattle.byte_lower.specs.Lists.{is_built, label_of, list_of, lists_of, top_of, labels_behind, unless_less, unless_equal, sum, difference, move, number, guard_of, guard_by, look_up, put_known, put_where, joined}
 use Rattle.byte_lower.specs.declared.guard.Guard.{Guard}
 use Rattle.byte_lower.specs.declared.layout.Layout.{Layout}
 
@@ -81,6 +84,10 @@ free AnsiC a h = absurd h
 
 some_same : {a b : Guard} → Some a ≡ Some b → a ≡ b
 some_same e = cc
+
+none_at : (i : ℤ) → value_at [] i ≡ None
+none_at (pos k) = refl
+none_at (negsuc k) = refl
 
 -- the kinds of an if on a bit whose block is one set or clr
 kinds_guarded : (wires : ℕ) (x y z : IntOp) (ops : List IntOp) (g : Guard) → guard_by x y z ≡ Some g →
@@ -221,6 +228,27 @@ module _ (o : Layout) (c : IsChip o.plan.target) (room : ram_need o.plan.sizes �
   differences v (N n) (V b) = fits _ (plain (prim.Subtract ∷ [])) _ (inl refl) (one_kind _ _ _ refl refl refl refl)
   differences v (N n) (N m) = fits _ (plain (prim.Move ∷ [])) _ (inr (inr (inl refl))) (one_kind _ _ _ refl refl refl refl)
 
+  known : (v : ℕ) (values : List ℤ) (x : Option ℤ) → (values ≡ [] → x ≡ None) → Within (plain (list.tab_code (length values))) (put_known o v x)
+  known v values None h = empty_within _
+  known v [] (Some n) h = let e = h refl in absurd (cc)
+  known v (a ∷ []) (Some n) h = record { code = λ cost. omega arith; boot = λ cost. refl; turns = λ cost. omega arith }
+  known v (a ∷ b ∷ values) (Some n) h = record { code = λ cost. omega arith; boot = λ cost. refl; turns = λ cost. omega arith }
+
+  looked_within : (v : ℕ) (w : NumSource) (values : List ℤ) (l : ℕ) → Within (plain (list.tab_code (length values))) (look_up o v w values l)
+  looked_within v (N i) values l = known v values (value_at values i) (λ e. ap (λ xs. value_at xs i) e ∙ none_at i)
+  looked_within v (V w) [] l = empty_within _
+  looked_within v (V w) (n ∷ []) l = record { code = λ cost. omega arith; boot = λ cost. refl; turns = λ cost. omega arith }
+  looked_within v (V w) (n ∷ m ∷ ns) l =
+      let many = length-map (n ∷ m ∷ ns) word_of in
+      record {
+        code = λ cost. let e = ap (λ k. cost (prim.Table k)) many in omega (arith, e);
+        boot = λ cost. refl;
+        turns = λ cost. let e = ap (λ k. cost (prim.Table k)) many in omega (arith, e);
+      }
+
+  looked : (v : ℕ) (w : NumSource) (values : List ℤ) (l : ℕ) → Fits (list.Tab (length values)) (look_up o v w values l)
+  looked v w values l = fits _ (plain (list.tab_code (length values))) _ (inl refl) (looked_within v w values l)
+
   list_fits : (x : IntOp) (l top : ℕ) → is_built x ≡ true → IsInRange (room_of o) x → Fits (operation_of (op.kind_of Kept x)) (list_of o x l top)
   list_fits (Set b) l top built h = fits _ (plain (prim.PutBit (is_wire Kept b) ∷ [])) _ (inl refl) (one_kind _ _ _ refl refl refl (ap prim.PutBit (dest b h)))
   list_fits (Clr b) l top built h = fits _ (plain (prim.PutBit (is_wire Kept b) ∷ [])) _ (inl refl) (one_kind _ _ _ refl refl refl (ap prim.PutBit (dest b h)))
@@ -240,6 +268,7 @@ module _ (o : Layout) (c : IsChip o.plan.target) (room : ram_need o.plan.sizes �
   list_fits (Sub v w u) l top built h = differences v w u
   list_fits (Inc v) l top built h = fits _ (plain (prim.Increment ∷ [])) _ (inl refl) (one_kind _ _ _ refl refl refl refl)
   list_fits (Dec v) l top built h = fits _ (plain (prim.Decrement ∷ [])) _ (inl refl) (one_kind _ _ _ refl refl refl refl)
+  list_fits (Tab v w values) l top built h = looked v w values l
   list_fits x l top built h = absurd (cc)
 
   guard_fits : (g : Guard) → IsSource (room_of o) g.from × IsDest (room_of o) g.to →

@@ -1,8 +1,12 @@
 -- A program's code uses of its chip only what its layout has.
-use Rattle.std.proofs.Common.{◌≡◌, ℕ, zero, suc, ◌+◌, ◌<◌, ◌≤◌, inl, inr, Bool, true, false, List, [], ◌∷◌, ◌++◌, length, drop, Option, Some, None, ℤ, pos, refl, arith}
+use Rattle.std.proofs.Common.{◌≡◌, ℕ, zero, suc, ◌+◌, ◌<◌, ◌≤◌, inl, inr, Bool, true, false, List, [], ◌∷◌, ◌++◌, length, drop, Option, Some, None, ℤ, pos, refl, sym, subst, arith}
 use Rattle.std.specs.Prelude.{if◌then◌else◌, int_lt, All}
 use Rattle.std.specs.Ordering.{int_eq}
+use Rattle.std.proofs.lemmas.List.{length-map}
 use Rattle.std.proofs.lemmas.List.Elements.{All-head, All-tail, All-nil, All-cons}
+use Rattle.ladder_meaning.specs.Device.{word_of}
+use Rattle.ladder_meaning.specs.Numbers.{value_at}
+use Rattle.ladder_tree.specs.declared.limits.TheConstants.{TABLE_VALUES}
 use Rattle.int_code.specs.Shapes.{shape_of}
 use Rattle.int_code.specs.WellFormed.{IsDest, IsSource, IsNumSource, IsComputed, IsInRange}
 use Rattle.int_code.specs.declared.op.BitDest as written
@@ -10,7 +14,7 @@ use Rattle.int_code.specs.declared.op.BitDest.TheVariants as opdest
 use Rattle.int_code.specs.declared.op.BitSource as read
 use Rattle.int_code.specs.declared.op.BitSource.TheVariants as opsource
 use Rattle.int_code.specs.declared.op.IntOp.{IntOp}
-use Rattle.int_code.specs.declared.op.IntOp.TheVariants.{Set, Clr, Cpy, Not, Ifs, Ifc, Iflt, Ifeq, Els, Fi, Lit, Mov, Add, Sub, Inc, Dec}
+use Rattle.int_code.specs.declared.op.IntOp.TheVariants.{Set, Clr, Cpy, Not, Ifs, Ifc, Iflt, Ifeq, Els, Fi, Lit, Mov, Add, Sub, Inc, Dec, Tab}
 use Rattle.int_code.specs.declared.op.IntProgram.{IntProgram}
 use Rattle.int_code.specs.declared.op.NumSource.{NumSource}
 use Rattle.int_code.specs.declared.op.NumSource.TheVariants.{V, N}
@@ -21,7 +25,7 @@ use Rattle.byte_lower.proofs.ListLemmas.{guard_ranges}
 use Rattle.byte_lower.proofs.WordLemmas.{word_small}
 use Rattle.byte_lower.specs.Code.{CanPlace, booted, start_values, code_of}
 use Rattle.byte_lower.specs.Layout.{word_cell, dest_of, source_of, room_of, own_cells}
-use Rattle.byte_lower.specs.Lists.{is_built, label_of, list_of, lists_of, top_of, labels_behind, unless_less, unless_equal, sum, difference, move, number, guard_of, put_where, joined}
+use Rattle.byte_lower.specs.Lists.{is_built, label_of, list_of, lists_of, top_of, labels_behind, unless_less, unless_equal, sum, difference, move, number, guard_of, look_up, put_known, put_where, joined}
 use Rattle.byte_lower.specs.Uses.{UsesWord, UsesByte, ReadsWord, ReadsBit, WritesBit, Uses}
 use Rattle.byte_lower.specs.declared.guard.Guard.{Guard}
 use Rattle.byte_lower.specs.declared.layout.Layout.{Layout}
@@ -82,6 +86,27 @@ module _ (o : Layout) where
   differences v (N n) (V b) h = (word v h.0, bytes n, word b h.2)
   differences v (N n) (N m) h = (word v h.0, bytes _)
 
+  known : (v : ℕ) (x : Option ℤ) → v < o.plan.sizes.variables → Every IsUsed (put_known o v x)
+  known v None h = tt
+  known v (Some n) h = ((word v h, bytes n), tt)
+
+  looked : (v : ℕ) (w : NumSource) (values : List ℤ) (l : ℕ) → v < o.plan.sizes.variables → IsNumSource (room_of o) w → length values ≤ TABLE_VALUES →
+      Every IsUsed (look_up o v w values l)
+  looked v (N i) values l h g few = known v (value_at values i) h
+  looked v (V w) [] l h g few = tt
+  looked v (V w) (n ∷ []) l h g few = ((word w g, bytes (pos 0)), (tt, ((word v h, bytes n), (tt, tt))))
+  looked v (V w) (n ∷ m ∷ ns) l h g few =
+      let many = length-map (n ∷ m ∷ ns) word_of in (
+        (word w g, omega (arith, few)),
+        (
+          tt,
+          (
+            (inr (inr (inr refl)), word w g),
+            ((subst (λ k. 0 < k) (sym many) (omega arith), subst (λ k. k ≤ TABLE_VALUES) (sym many) few), ((word v h, inr (inl refl)), (tt, tt))),
+          ),
+        ),
+      )
+
   list : (op : IntOp) (l top : ℕ) → is_built op ≡ true → IsInRange (room_of o) op → Every IsUsed (list_of o op l top)
   list (Set b) l top built h = (dest b h, tt)
   list (Clr b) l top built h = (dest b h, tt)
@@ -99,6 +124,7 @@ module _ (o : Layout) where
   list (Sub v w u) l top built h = (differences v w u h, tt)
   list (Inc v) l top built h = (word v h, tt)
   list (Dec v) l top built h = (word v h, tt)
+  list (Tab v w values) l top built h = looked v w values l h.0 h.1 h.2
   list op l top built h = absurd (cc)
 
   lists : (passed : ℕ) (ops : List IntOp) (k : ℕ) (labels : List ℕ) → All (λ op. is_built op ≡ true) ops → All (IsInRange (room_of o)) ops →
