@@ -3,3 +3,4 @@ pub mod Legal
 pub mod Weights
 pub mod Costs
 pub mod Carry
+pub mod Words

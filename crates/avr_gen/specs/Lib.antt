@@ -3,3 +3,4 @@ pub mod Boards
 pub mod Admission
 pub mod Sums
 pub mod Carried
+pub mod Firmware
