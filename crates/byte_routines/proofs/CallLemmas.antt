@@ -73,11 +73,11 @@ leads code T s _ _ none (waits {begun = begun} {sent = sent} p h polls fits w) =
     let is : byte_step code s true no_reading ≡ Some x = step_at code s p h ∙ ap (λ (k : Shape). Some (shaped code p.prim k s d true no_reading)) polls in
     (more.0, goes x is refl refl more.1, more.2)
 
-up_is : (k at : ℕ) → up k at ≡ k + at
+pub up_is : (k at : ℕ) → up k at ≡ k + at
 up_is zero at = omega arith
 up_is (suc k) at = let e = up_is k at in omega (arith, e)
 
-same_test : (j k at : ℕ) → (up j at == up k at) ≡ (j == k)
+pub same_test : (j k at : ℕ) → (up j at == up k at) ≡ (j == k)
 same_test j k at = by (j == k) refl
   where
     by : (b : Bool) → (j == k) ≡ b → (up j at == up k at) ≡ b
@@ -97,7 +97,7 @@ counted_from (j ∷ ks) k at back h =
     ∙ ap (λ n. cond (j == k) 1 0 + n) (counted_from ks k at back h) ∙ sym (times-cons k j ks)
 
 -- a fact at each place of a list
-abbrev AllAt : {X : Type 0} → (ℕ → X → Type 0) → List X → Type 0
+abbrev pub AllAt : {X : Type 0} → (ℕ → X → Type 0) → List X → Type 0
 AllAt P [] = Unit {0}
 AllAt P (x ∷ xs) = P 0 x × AllAt (λ i. P (suc i)) xs
 
@@ -121,14 +121,14 @@ counts routine ks begun at back h c is k q e =
     omega (arith, one, two)
 
 -- where a call ends
-record Back (s : Scratch) (d : Store) (back to n : ℕ) (e : Bytes) : Type 0 where
-  place : e.place ≡ back
-  closed : e.open_call ≡ None
-  result : IsWord e.store to n
-  kept : (c : ℕ) → IsOther s c → cell e.store c ≡ cell d c
-  rest : e.store ≡ record d { cells = e.store.cells; flag = e.store.flag }
+pub record Back (s : Scratch) (d : Store) (back to n : ℕ) (e : Bytes) : Type 0 where
+  pub place : e.place ≡ back
+  pub closed : e.open_call ≡ None
+  pub result : IsWord e.store to n
+  pub kept : (c : ℕ) → IsOther s c → cell e.store c ≡ cell d c
+  pub rest : e.store ≡ record d { cells = e.store.cells; flag = e.store.flag }
 
-called : (s : Scratch) (at back a b : ℕ) (e : Bytes) → IsCalled s at back a b e → Works s e.store e.store a b 65536 (cell e.store s.count) (cell e.store s.sign)
+pub called : (s : Scratch) (at back a b : ℕ) (e : Bytes) → IsCalled s at back a b e → Works s e.store e.store a b 65536 (cell e.store s.count) (cell e.store s.sign)
 called s at back a b e c = record {
   scratch = c.scratch;
   cells = c.cells;
