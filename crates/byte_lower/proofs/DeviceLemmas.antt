@@ -8,7 +8,7 @@ use Rattle.int_code.specs.Store as int
 use Rattle.int_code.specs.declared.op.BitDest as written
 use Rattle.int_code.specs.declared.op.BitDest.TheVariants as opdest
 use Rattle.int_code.specs.declared.op.IntOp.{IntOp}
-use Rattle.int_code.specs.declared.op.IntOp.TheVariants.{Set, Clr, Cpy, Not, Ifs, Ifc, Iflt, Ifeq, Els, Fi, Lit, Mov, Add, Sub, Inc, Dec}
+use Rattle.int_code.specs.declared.op.IntOp.TheVariants.{Set, Clr, Cpy, Not, Ifs, Ifc, Iflt, Ifeq, Els, Fi, Lit, Mov, Add, Sub, Mul, Div, Inc, Dec}
 use Rattle.byte_lower.specs.Code.{store_behind}
 use Rattle.byte_lower.specs.Lists.{is_built}
 
@@ -31,6 +31,8 @@ op_keeps r (Lit v n) t h = refl
 op_keeps r (Mov v from) t h = refl
 op_keeps r (Add v w u) t h = refl
 op_keeps r (Sub v w u) t h = refl
+op_keeps r (Mul v w u) t h = refl
+op_keeps r (Div v w u) t h = refl
 op_keeps r (Inc v) t h = refl
 op_keeps r (Dec v) t h = refl
 op_keeps r op t h = absurd (cc)

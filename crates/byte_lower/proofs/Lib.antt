@@ -4,6 +4,7 @@ pub mod TableLemmas
 pub mod RouteLemmas
 pub mod StoreLemmas
 pub mod GoLemmas
+pub mod CallLemmas
 pub mod StepLemmas
 pub mod WalkLemmas
 pub mod PlaceLemmas

@@ -1,6 +1,6 @@
 //! The places of variables and bits by their numbers.
 
-ghost use Rattle.std.specs.Prelude.{◌≡◌, ◌<◌, ◌+◌};
+ghost use Rattle.std.specs.Prelude.{◌≡◌, ◌<◌, ◌≤◌, ◌+◌};
 ghost use Rattle.chip_tables.specs.declared.scratch.TheConstants.{WIRES};
 ghost use Rattle.int_code.specs.WellFormed.{IsDest, IsSource};
 ghost use Rattle.mem_plan.specs.Needs.{ram_need};
@@ -9,7 +9,7 @@ ghost use Rattle.byte_lower.specs.Layout.{room_of};
 
 use crate::layout::Layout;
 use byte_code::prim::{BitDest, BitSource};
-use chip_tables::{CellBit, PortBit, wire};
+use chip_tables::{CellBit, PortBit, Scratch, scratch_cells, wire};
 use int_code::op;
 
 impl Layout {
@@ -26,6 +26,15 @@ impl Layout {
         ensures { result ≡ spec.word_cell self.now v }
     {
         self.plan.cell_of(v)
+    }
+
+    /// The compiler's own cells.
+    pub(crate) fn own_cells(&self) -> Scratch
+        ensures cells { result ≡ spec.own_cells self.now.plan.target }
+        ensures left { result.left ≤ 1000 }
+        ensures right { result.right ≤ 1000 }
+    {
+        scratch_cells(self.plan.target()).unwrap()
     }
 
     /// Where a bit is: a kept one where the plan has it, and a wire in the compiler's own cells.

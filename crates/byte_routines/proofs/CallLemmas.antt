@@ -1,9 +1,10 @@
 -- Calls of the routines come back with their results, and begin each place as often as is said.
-use Rattle.std.proofs.Common.{◌≡◌, ◌≢◌, ℕ, zero, suc, ◌+◌, ◌<◌, ◌≤◌, Bool, true, false, cond, List, [], ◌∷◌, ◌++◌, drop, map, Some, None, refl, sym, ap, subst, ◌∙◌, arith}
+use Rattle.std.proofs.Common.{◌≡◌, ◌≢◌, ℕ, zero, suc, ◌+◌, ◌<◌, ◌≤◌, Bool, true, false, cond, List, [], ◌∷◌, ◌++◌, drop, length, map, Some, None, refl, sym, ap, subst, ◌∙◌, arith}
 use Rattle.std.specs.Prelude.{slice_get, ◌==◌}
 use Rattle.std.proofs.lemmas.Bool.Decides.{nat_tests}
 use Rattle.chip_tables.specs.Outside.{no_reading}
 use Rattle.chip_tables.specs.Scratch.{pic_scratch, avr_scratch, scratch_of}
+use Rattle.chip_tables.specs.declared.memory.TheConstants.{DATA_ADDRESSES}
 use Rattle.chip_tables.specs.declared.outside.PinReading.{PinReading}
 use Rattle.chip_tables.specs.declared.scratch.Scratch.{Scratch}
 use Rattle.chip_tables.specs.declared.target.Target.{Target}
@@ -124,6 +125,7 @@ counts routine ks begun at back h c is k q e =
 pub record Back (s : Scratch) (d : Store) (back to n : ℕ) (e : Bytes) : Type 0 where
   pub place : e.place ≡ back
   pub closed : e.open_call ≡ None
+  pub cells : length e.store.cells ≡ DATA_ADDRESSES
   pub result : IsWord e.store to n
   pub kept : (c : ℕ) → IsOther s c → cell e.store c ≡ cell d c
   pub rest : e.store ≡ record d { cells = e.store.cells; flag = e.store.flag }
@@ -149,7 +151,7 @@ products t s is code calls at back a b rest ahead loop_is before e c =
     let few : product a b < 65536 = omega arith in
     let way = multiplies code T s apart e.store calls at back rest ahead loop_up a b 65536 (cell e.store s.count) (cell e.store s.sign) e c.place c.opened
     (called s at back a b e c)
-    (λ x m. there (record { place = m.place; closed = m.closed; result = m.works.outcome few; kept = m.works.kept; rest = m.works.rest })) in
+    (λ x m. there (record { place = m.place; closed = m.closed; cells = m.works.cells; result = m.works.outcome few; kept = m.works.kept; rest = m.works.rest })) in
     let l = leads code T e _ [] refl way in
     record {
       end = l.0;
@@ -252,7 +254,7 @@ quotients t s is code calls at back a b rest ahead loop_is zero_is before e c =
     let zero_up : label_place code 5 ≡ up 13 at = omega (arith, zero_is, up_is 13 at) in
     let way = divides code T s apart e.store calls at back rest ahead loop_up zero_up a b 65536 (cell e.store s.count) (cell e.store s.sign) e c.place c.opened
     (called s at back a b e c)
-    (λ x m. there (record { place = m.place; closed = m.closed; result = m.works.left; kept = m.works.kept; rest = m.works.rest })) in
+    (λ x m. there (record { place = m.place; closed = m.closed; cells = m.works.cells; result = m.works.left; kept = m.works.kept; rest = m.works.rest })) in
     let l = leads code T e _ [] refl way in
     record {
       end = l.0;

@@ -6,6 +6,7 @@ use Rattle.std.proofs.lemmas.Bool.{and_parts}
 use Rattle.std.proofs.lemmas.Bool.Decides.{nat_tests}
 use Rattle.chip_tables.specs.Outside.{no_reading}
 use Rattle.chip_tables.specs.Scratch.{scratch_of}
+use Rattle.chip_tables.specs.declared.memory.TheConstants.{DATA_ADDRESSES}
 use Rattle.chip_tables.specs.declared.scratch.Scratch.{Scratch}
 use Rattle.chip_tables.specs.declared.target.Target.{Target}
 use Rattle.byte_code.specs.declared.prim.Paced.{Paced}
@@ -114,6 +115,7 @@ pub record Called (code : List Paced) (s : Scratch) (costs : List ℕ) (at back 
   pub counts : (i : ℕ) → times i (at ∷ begun) ≤ cost_at costs at i
   pub place : end.place ≡ back
   pub closed : end.open_call ≡ None
+  pub cells : length end.store.cells ≡ DATA_ADDRESSES
   pub result : IsWord end.store to n
   pub kept : (c : ℕ) → IsOther s c → cell end.store c ≡ cell e.store c
   pub rest : end.store ≡ record e.store { cells = end.store.cells; flag = end.store.flag }
@@ -130,6 +132,7 @@ called_by code s costs ks at back to n e few within way =
       counts = λ i. counts_at costs (0 ∷ ks) at i few within;
       place = m.1.place;
       closed = m.1.closed;
+      cells = m.1.cells;
       result = m.1.result;
       kept = m.1.kept;
       rest = m.1.rest;
@@ -146,7 +149,7 @@ product_called t s is code calls at back a b rest ahead loop_is e c =
     (omega arith, (omega arith, (omega arith, (omega arith, (omega arith, (omega arith, (omega arith, tt))))))) refl
     (multiplies code T s (scratch_apart t s is) e.store calls at back rest ahead loop_up a b 65536 (cell e.store s.count) (cell e.store s.sign) e c.place c.opened
     (called s at back a b e c)
-    (λ x m. there (record { place = m.place; closed = m.closed; result = m.works.outcome few; kept = m.works.kept; rest = m.works.rest })))
+    (λ x m. there (record { place = m.place; closed = m.closed; cells = m.works.cells; result = m.works.outcome few; kept = m.works.kept; rest = m.works.rest })))
 
 abbrev quotient_places : Bool → List ℕ
 quotient_places true = 1 ∷ 2 ∷ 3 ∷ 4 ∷ 5 ∷ 6 ∷ 7 ∷ 13 ∷ 14 ∷ 15 ∷ []
@@ -174,7 +177,7 @@ quotient_called t s is code calls at back a b rest ahead loop_is zero_is e c =
     let zero_up : label_place code 5 ≡ up 13 at = omega (arith, zero_is, up_is 13 at) in
     let way = divides code T s apart e.store calls at back rest ahead loop_up zero_up a b 65536 (cell e.store s.count) (cell e.store s.sign) e c.place c.opened
     (called s at back a b e c)
-    (λ x m. there (record { place = m.place; closed = m.closed; result = m.works.left; kept = m.works.kept; rest = m.works.rest })) in
+    (λ x m. there (record { place = m.place; closed = m.closed; cells = m.works.cells; result = m.works.left; kept = m.works.kept; rest = m.works.rest })) in
     called_by code s quotient_costs (quotient_places (b == 0)) at back s.left (quotient a b) e (quotient_counted (b == 0)) (quotient_within (b == 0))
     (subst (λ L. Way code T e L []) (places apart (b == 0) loop_up zero_up) way)
   where
