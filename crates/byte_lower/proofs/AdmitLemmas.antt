@@ -214,8 +214,7 @@ module _ (o : Layout) (c : IsChip o.plan.target) (room : ram_need o.plan.sizes â
   divides : (n : â„•) â†’ Every Admits (if_called (divide (own_cells o.plan.target)) n)
   divides zero = tt
   divides (suc n) =
-      let s = own_cells o.plan.target in
-      (
+      let s = own_cells o.plan.target in (
         refl,
         (
           and_from _ _ (own_cell s.sign own.sign) (and_from _ _ (own_high s.left own.left) (own_high s.right own.right)),
@@ -309,9 +308,16 @@ module _ (o : Layout) (c : IsChip o.plan.target) (room : ram_need o.plan.sizes â
   admitted p can =
       every_all (Î» q. admits (outfit_of o) q.prim) (code_of o p) (
         refl,
-        every_on Admits (start_values o p.starts 0) _ (starts p.starts 0 (omega (arith, can.starts)))
-            (refl, (refl, every_on Admits (lists_of o 0 p.ops 5 []) _ (lists 0 p.ops 5 [] can.built can.range)
-            (refl, every_on Admits (if_called (multiply (own_cells o.plan.target)) (count_by calls_product p.ops))
-            (if_called (divide (own_cells o.plan.target)) (count_by calls_quotient p.ops)) (multiplies (count_by calls_product p.ops))
-            (divides (count_by calls_quotient p.ops))))),
+        every_on Admits (start_values o p.starts 0) _ (starts p.starts 0 (omega (arith, can.starts))) (
+          refl,
+          (
+            refl,
+            every_on Admits (lists_of o 0 p.ops 5 []) _ (lists 0 p.ops 5 [] can.built can.range) (
+              refl,
+              every_on Admits (if_called (multiply (own_cells o.plan.target)) (count_by calls_product p.ops))
+                  (if_called (divide (own_cells o.plan.target)) (count_by calls_quotient p.ops)) (multiplies (count_by calls_product p.ops))
+                  (divides (count_by calls_quotient p.ops)),
+            ),
+          ),
+        ),
       )

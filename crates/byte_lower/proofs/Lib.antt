@@ -12,6 +12,7 @@ pub mod CodeLemmas
 pub mod BootLemmas
 pub mod DeviceLemmas
 pub mod NameLemmas
+pub mod RoutineLemmas
 pub mod CycleLemmas
 pub mod ListLemmas
 pub mod PinLemmas

@@ -127,7 +127,7 @@ abbrev NamesIn : List Paced → Paced → Type 0
 NamesIn code p = (l : ℕ) → label_named p.prim ≡ Some l → 5 < l → standing l code ≡ 1
 
 -- an operation calls the routine of this label
-abbrev IsCalledBy : IntOp → ℕ → Type 0
+abbrev pub IsCalledBy : IntOp → ℕ → Type 0
 IsCalledBy op l = ((l ≡ 1) × (calls_product op ≡ true)) ⊎ ((l ≡ 3) × (calls_quotient op ≡ true))
 
 -- a primitive names no label but that of a routine which the operation calls
@@ -486,7 +486,7 @@ every_both P Q R [] f h g = tt
 every_both P Q R (p ∷ ps) f h g = (f p h.0 g.0, every_both P Q R ps f h.1 g.1)
 
 -- a list names its operation's label, and the routine that the operation calls
-abbrev NamedBy : IntOp → ℕ → Paced → Type 0
+abbrev pub NamedBy : IntOp → ℕ → Paced → Type 0
 NamedBy op m p = (l : ℕ) → label_named p.prim ≡ Some l → (l ≡ m) ⊎ IsCalledBy op l
 
 pub named_by : (o : Layout) (op : IntOp) (m top : ℕ) → Every (NamedBy op m) (list_of o op m top)
@@ -607,8 +607,7 @@ module _ (s : Scratch) where
   divide_named P zero h = tt
   divide_named P (suc d) h =
       let none : (l : ℕ) → None ≡ Some l → P l = λ l e. absurd (cc e) in
-      let both = h (omega arith) in
-      (
+      let both = h (omega arith) in (
         none,
         (
           none,
@@ -792,24 +791,22 @@ module _ (o : Layout) (p : IntProgram) (can : CanPlace o p) where
   -- a routine stands wherever it is called
   asked : Every (Asks products quotients) code
   asked =
-      let none : (l : ℕ) → None ≡ Some l → ⊥ = λ l e. cc e in
-      (
+      let none : (l : ℕ) → None ≡ Some l → ⊥ = λ l e. cc e in (
         ((λ e. absurd (none 1 e)), (λ e. absurd (none 3 e))),
         every_on (Asks products quotients) values _ (values_ask o products quotients p.starts 0) (
           ((λ e. absurd (none 1 e)), (λ e. absurd (none 3 e))),
           (
             ((λ e. absurd (none 1 e)), (λ e. absurd (none 3 e))),
-            every_on (Asks products quotients) lists _ (every_map (CallsIn p.ops) (Asks products quotients) lists (asks_by p.ops) (lists_call o 0 p.ops 5 [] (omega arith)))
-                (
-                  ((λ e. absurd (cc e)), (λ e. absurd (cc e))),
-                  every_on (Asks products quotients) (if_called (multiply (own_cells o.plan.target)) products) (if_called (divide (own_cells o.plan.target)) quotients)
-                      (every_map (λ q. (l : ℕ) → label_named q.prim ≡ Some l → l ≡ 2) (Asks products quotients) _
-                      (λ q h. ((λ e. absurd (omega (arith, h 1 e))), (λ e. absurd (omega (arith, h 3 e))))) (multiply_named (own_cells o.plan.target) (λ l. l ≡ 2) products
-                      (λ h. refl)))
-                      (every_map (λ q. (l : ℕ) → label_named q.prim ≡ Some l → 4 ≤ l) (Asks products quotients) _
-                      (λ q h. ((λ e. absurd (omega (arith, h 1 e))), (λ e. absurd (omega (arith, h 3 e))))) (divide_named (own_cells o.plan.target) (λ l. 4 ≤ l) quotients
-                      (λ h. (omega arith, omega arith)))),
-                ),
+            every_on (Asks products quotients) lists _ (every_map (CallsIn p.ops) (Asks products quotients) lists (asks_by p.ops) (lists_call o 0 p.ops 5 [] (omega arith))) (
+              ((λ e. absurd (cc e)), (λ e. absurd (cc e))),
+              every_on (Asks products quotients) (if_called (multiply (own_cells o.plan.target)) products) (if_called (divide (own_cells o.plan.target)) quotients)
+                  (every_map (λ q. (l : ℕ) → label_named q.prim ≡ Some l → l ≡ 2) (Asks products quotients) _
+                  (λ q h. ((λ e. absurd (omega (arith, h 1 e))), (λ e. absurd (omega (arith, h 3 e))))) (multiply_named (own_cells o.plan.target) (λ l. l ≡ 2) products
+                  (λ h. refl)))
+                  (every_map (λ q. (l : ℕ) → label_named q.prim ≡ Some l → 4 ≤ l) (Asks products quotients) _
+                  (λ q h. ((λ e. absurd (omega (arith, h 1 e))), (λ e. absurd (omega (arith, h 3 e))))) (divide_named (own_cells o.plan.target) (λ l. 4 ≤ l) quotients
+                  (λ h. (omega arith, omega arith)))),
+            ),
           ),
         ),
       )
@@ -838,8 +835,16 @@ module _ (o : Layout) (p : IntProgram) (can : CanPlace o p) where
   whole = record {
     first = (booted (Start (ram_need o.plan.sizes)), refl, refl);
     others = λ i q e. every_at IsNoStart (values ++ polling (Label 0) ∷ polling (CyclePoll 0) ∷ (lists ++ paced (Jump 0) ∷ routines)) i q
-        (every_on IsNoStart values _ (values_start o p.starts 0) (refl, (refl, every_on IsNoStart lists _ (lists_start o 0 p.ops 5 [])
-        (refl, every_on IsNoStart (if_called (multiply (own_cells o.plan.target)) products) (if_called (divide (own_cells o.plan.target)) quotients)
-        (multiply_starts (own_cells o.plan.target) products) (divide_starts (own_cells o.plan.target) quotients))))) e;
+        (every_on IsNoStart values _ (values_start o p.starts 0) (
+          refl,
+          (
+            refl,
+            every_on IsNoStart lists _ (lists_start o 0 p.ops 5 []) (
+              refl,
+              every_on IsNoStart (if_called (multiply (own_cells o.plan.target)) products) (if_called (divide (own_cells o.plan.target)) quotients)
+                  (multiply_starts (own_cells o.plan.target) products) (divide_starts (own_cells o.plan.target) quotients),
+            ),
+          ),
+        )) e;
     labels = λ i l q e named. is_placed l (every_at NamedOnce code i q all_named e l named);
   }

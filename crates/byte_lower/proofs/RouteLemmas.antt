@@ -200,9 +200,19 @@ module _ (code : List Paced) where
           counts = λ i.
               let owes : paid (slice_get code s.place) i ≡ cost_at (costs_of l) (label_place code l) i = ap (λ y. paid y i) at_call in
               let same : spent i c.end.place more.own ≡ spent i back more.own = ap (λ p. spent i p more.own) c.place in
-              omega (arith, owes, same, c.counts i, more.counts i, times-cons i (label_place code l) ((c.begun ++ back ∷ []) ++ more.begun),
-              times-cons i (label_place code l) c.begun, times_on i (c.begun ++ back ∷ []) more.begun, times_on i c.begun (back ∷ []), times-cons i back [],
-              times-cons i back more.own);
+              omega (
+                arith,
+                owes,
+                same,
+                c.counts i,
+                more.counts i,
+                times-cons i (label_place code l) ((c.begun ++ back ∷ []) ++ more.begun),
+                times-cons i (label_place code l) c.begun,
+                times_on i (c.begun ++ back ∷ []) more.begun,
+                times_on i c.begun (back ∷ []),
+                times-cons i back [],
+                times-cons i back more.own,
+              );
         }
 
     pub go : (s : Bytes) (p : Paced) → slice_get code s.place ≡ Some p → asked_by p.prim ≡ ask.Nothing → Fits p.prim s →
@@ -214,6 +224,10 @@ module _ (code : List Paced) where
           way = subst (λ o. Way code Goal s ((act code p.prim s false no_reading).next.place ∷ n.begun) (o ++ [])) quiet (acts p h plain fits n.way);
           own = (act code p.prim s false no_reading).next.place ∷ n.own;
           rises = (up, n.rises);
-          counts = λ i. omega (arith, n.counts i, times-cons i (act code p.prim s false no_reading).next.place n.begun,
-              times-cons i (act code p.prim s false no_reading).next.place n.own);
+          counts = λ i. omega (
+            arith,
+            n.counts i,
+            times-cons i (act code p.prim s false no_reading).next.place n.begun,
+            times-cons i (act code p.prim s false no_reading).next.place n.own,
+          );
         }

@@ -102,7 +102,7 @@ abbrev pub AllAt : {X : Type 0} → (ℕ → X → Type 0) → List X → Type 0
 AllAt P [] = Unit {0}
 AllAt P (x ∷ xs) = P 0 x × AllAt (λ i. P (suc i)) xs
 
-all_at : {X : Type 0} (P : ℕ → X → Type 0) (xs : List X) → AllAt P xs → (i : ℕ) (x : X) → slice_get xs i ≡ Some x → P i x
+pub all_at : {X : Type 0} (P : ℕ → X → Type 0) (xs : List X) → AllAt P xs → (i : ℕ) (x : X) → slice_get xs i ≡ Some x → P i x
 all_at P [] a i x e = absurd (cc)
 all_at P (y ∷ xs) a zero x e = let f : y ≡ x = cc in subst (P 0) f a.0
 all_at P (y ∷ xs) a (suc i) x e = all_at (λ i. P (suc i)) xs a.1 i x e

@@ -156,12 +156,80 @@ quotient_places true = 1 ∷ 2 ∷ 3 ∷ 4 ∷ 5 ∷ 6 ∷ 7 ∷ 13 ∷ 14 ∷ 1
 quotient_places false = 1 ∷ 2 ∷ 3 ∷ 4 ∷ 5 ∷ 6 ∷ 7 ∷ 8 ∷ rounds 8 15 (12 ∷ [])
 
 quotient_counted : (zero_by : Bool) → AllAt (λ k c. times k (0 ∷ quotient_places zero_by) ≤ c) quotient_costs
-quotient_counted true =
-    (omega arith, (omega arith, (omega arith, (omega arith, (omega arith, (omega arith, (omega arith, (omega arith, (omega arith, (omega arith, (omega arith, (omega arith,
-    (omega arith, (omega arith, (omega arith, (omega arith, tt))))))))))))))))
-quotient_counted false =
-    (omega arith, (omega arith, (omega arith, (omega arith, (omega arith, (omega arith, (omega arith, (omega arith, (omega arith, (omega arith, (omega arith, (omega arith,
-    (omega arith, (omega arith, (omega arith, (omega arith, tt))))))))))))))))
+quotient_counted true = (
+  omega arith,
+  (
+    omega arith,
+    (
+      omega arith,
+      (
+        omega arith,
+        (
+          omega arith,
+          (
+            omega arith,
+            (
+              omega arith,
+              (
+                omega arith,
+                (
+                  omega arith,
+                  (
+                    omega arith,
+                    (
+                      omega arith,
+                      (
+                        omega arith,
+                        (omega arith, (omega arith, (omega arith, (omega arith, tt)))),
+                      ),
+                    ),
+                  ),
+                ),
+              ),
+            ),
+          ),
+        ),
+      ),
+    ),
+  ),
+)
+quotient_counted false = (
+  omega arith,
+  (
+    omega arith,
+    (
+      omega arith,
+      (
+        omega arith,
+        (
+          omega arith,
+          (
+            omega arith,
+            (
+              omega arith,
+              (
+                omega arith,
+                (
+                  omega arith,
+                  (
+                    omega arith,
+                    (
+                      omega arith,
+                      (
+                        omega arith,
+                        (omega arith, (omega arith, (omega arith, (omega arith, tt)))),
+                      ),
+                    ),
+                  ),
+                ),
+              ),
+            ),
+          ),
+        ),
+      ),
+    ),
+  ),
+)
 
 quotient_within : (zero_by : Bool) → list_all (λ j. nat_lt j (length quotient_costs)) (0 ∷ quotient_places zero_by) ≡ true
 quotient_within true = refl
