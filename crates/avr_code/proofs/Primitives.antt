@@ -1,6 +1,6 @@
 -- Each primitive that is admitted leads to what the byte machine comes to.
 use Rattle.std.proofs.Common.{◌≡◌, ℕ, suc, ◌+◌, ◌-◌, ◌*◌, ◌%◌, ◌<◌, ◌≤◌, inl, inr, Bool, true, false, List, [], ◌∷◌, Option, Some, None, refl, sym, ap, ap₂, ◌∙◌, subst, arith, lit<, lit≤}
-use Rattle.std.proofs.lemmas.Bool.{lt-ltb, le-ltb, true≢false}
+use Rattle.std.proofs.lemmas.Bool.{lt-ltb, le-ltb, ltb-true, true≢false}
 use Rattle.std.proofs.lemmas.Nat.{xor_of_8}
 use Rattle.std.specs.Prelude.{bit_xor, ◌==◌, ◌&&◌, ◌||◌, not, nat_le, nat_lt, if◌then◌else◌, slice_index}
 use Rattle.chip_tables.specs.Bits.{as_bit}
@@ -21,7 +21,7 @@ use Rattle.chip_tables.specs.declared.scratch.Scratch.{Scratch}
 use Rattle.byte_code.specs.declared.store.Flag.{Flag}
 use Rattle.byte_code.specs.declared.store.Store.{Store}
 use Rattle.byte_code.specs.declared.state.Bytes.{Bytes}
-use Rattle.byte_code.specs.Store.{cell, with_cell, word_at, word_from, lifted}
+use Rattle.byte_code.specs.Store.{cell, in_byte, with_cell, word_at, word_from, lifted}
 use Rattle.byte_code.specs.Machine.{act, label_place, goes_to}
 use Rattle.byte_code.specs.Table.{plain, same, value_of}
 use Rattle.byte_code.specs.Counts.{IsOfKind}
@@ -33,13 +33,14 @@ use Rattle.avr_mach.specs.Insn.{FieldsFit}
 use Rattle.avr_mach.specs.State.{flag}
 use Rattle.avr_mach.specs.Step.{avr_step, at_place}
 use Rattle.avr_mach.specs.Words.{size_of}
+use Rattle.avr_devices.specs.IoSpace.{latch_address, level_address}
 use Rattle.avr_devices.specs.Part.{mega16}
 use Rattle.target_core.specs.Law.{LeadsFrom, Moves, IsReady, Layout, HasAt}
-use Rattle.avr_code.specs.Code.{Board, Piece, Plain, Loads, Stores, Fetches, Gives, Latches, insn_of, code_of, words_of, size_in, word_count, cycle_count, jump_on, status_bit}
+use Rattle.avr_code.specs.Code.{Board, Piece, Plain, Loads, Stores, Fetches, Gives, Latches, Skips, Mixes, insn_of, skip_of, io_skip, code_of, words_of, size_in, word_count, cycle_count, jump_on, status_bit}
 use Rattle.avr_code.specs.Stands.{IsCell, HasFlag, StandsAt}
 use Rattle.avr_code.specs.Target.{avr_target}
 use Rattle.avr_code.proofs.Compares.{equal_words, below_words, less_words}
-use Rattle.avr_code.proofs.Effects.{InsnFits, PieceFits, FetchFits, result}
+use Rattle.avr_code.proofs.Effects.{InsnFits, PieceFits, FetchFits, TestFits, result}
 use Rattle.avr_code.proofs.Paths.{Paths, At, Fork, Near, Ahead, Lost, bump, paths, AllGood, AllPiecesFit, good_paths}
 use Rattle.avr_code.proofs.Standing.{Has, Alike, ViewStands, view_of, view_seen, to_view, from_view, alike, has_same, has_cell, has_word}
 use Rattle.avr_code.proofs.Sums.{added_low, added_high, more_low, more_high, less_low, less_high, taken_low, taken_high, word_low, word_high}
@@ -96,6 +97,26 @@ fetch_fields (bit.Cell a b) (inr high) = let e = high.0 in let f = high.1 in
 fetch_fields (bit.Level port b) fit = (lit< tt, omega arith)
 fetch_fields (bit.Latch port b) fit = (lit< tt, omega arith)
 
+low_bit : (b : ℕ) → in_byte b < 8
+low_bit b = omega arith
+
+io_fields : (a b : ℕ) (is : Bool) → a < 32 → FieldsFit (io_skip is a (in_byte b))
+io_fields a b true low = (low, low_bit b)
+io_fields a b false low = (low, low_bit b)
+
+reg_fields : (r b : ℕ) (is : Bool) → r < 32 → FieldsFit (skip_of is r (in_byte b))
+reg_fields r b true low = (low, low_bit b)
+reg_fields r b false low = (low, low_bit b)
+
+skip_fields : (from : BitSource) (is : Bool) → TestFits from → FieldsFit (insn_of (Skips from is))
+skip_fields (bit.Cell a b) is fit = by (nat_lt a 32) refl
+  where
+    by : (c : Bool) → nat_lt a 32 ≡ c → FieldsFit (if c then skip_of is a (in_byte b) else skip_of is 18 (in_byte b))
+    by true e = reg_fields a b is (ltb-true a 32 e)
+    by false e = reg_fields 18 b is (lit< tt)
+skip_fields (bit.Level port b) is fit = io_fields (level_address port) b is (omega arith)
+skip_fields (bit.Latch port b) is fit = io_fields (latch_address port) b is (omega arith)
+
 pub piece_fields : (p : Piece) → PieceFits p → FieldsFit (insn_of p)
 piece_fields (Plain i) fit = insn_fields i fit
 piece_fields (Loads r a) fit = by fit.1
@@ -108,6 +129,9 @@ piece_fields (Fetches from) fit = fetch_fields from fit
 piece_fields (Gives a r) fit = (fit.1, fit.0)
 piece_fields (Latches port b true) fit = (omega arith, fit.1)
 piece_fields (Latches port b false) fit = (omega arith, fit.1)
+piece_fields (Skips from is) fit = skip_fields from is fit
+piece_fields (Mixes d r true) fit = (fit.0, fit.1)
+piece_fields (Mixes d r false) fit = (fit.0, fit.1)
 piece_fields (Stores a r) fit = by fit.1
   where
     by : IsCell a → FieldsFit (if nat_lt a 32 then insn.Mov a r else insn.Sts a r)

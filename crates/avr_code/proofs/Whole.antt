@@ -1,6 +1,6 @@
 -- The law of the primitives that are admitted.
-use Rattle.std.proofs.Common.{◌≡◌, ◌≢◌, ℕ, suc, Bool, ◌+◌, ◌<◌, ◌≤◌, ◌⊎◌, inl, inr, true, false, List, [], ◌∷◌, length, refl, sym, ap, ◌∙◌, subst, arith, lit<, lit≤, length-append}
-use Rattle.std.specs.Prelude.{◌==◌, if◌then◌else◌, slice_index}
+use Rattle.std.proofs.Common.{◌≡◌, ◌≢◌, ℕ, suc, Bool, ◌+◌, ◌<◌, ◌≤◌, ◌⊎◌, inl, inr, true, false, List, [], ◌∷◌, ◌++◌, length, refl, sym, ap, ◌∙◌, subst, arith, lit<, lit≤, length-append}
+use Rattle.std.specs.Prelude.{◌==◌, ◌&&◌, not, nat_lt, if◌then◌else◌, slice_index}
 use Rattle.chip_tables.specs.Outside.{no_reading}
 use Rattle.runs.specs.declared.ask.Ask.TheVariants as ask
 use Rattle.runs.specs.Chip.{steps_over}
@@ -11,6 +11,8 @@ use Rattle.byte_code.specs.declared.prim.Test.TheVariants as test
 use Rattle.byte_code.specs.declared.prim.BitOp.{BitOp}
 use Rattle.byte_code.specs.declared.prim.BitOp.TheVariants as ops
 use Rattle.byte_code.specs.declared.prim.BitDest.TheVariants as dest
+use Rattle.byte_code.specs.declared.prim.BitSource.{BitSource}
+use Rattle.byte_code.specs.declared.prim.BitSource.TheVariants as bit
 use Rattle.byte_code.specs.declared.prim.ByteOp.TheVariants as bytes
 use Rattle.byte_code.specs.declared.prim.WordOp.{WordOp}
 use Rattle.byte_code.specs.declared.prim.WordOp.TheVariants as words
@@ -18,6 +20,7 @@ use Rattle.byte_code.specs.declared.prim.WordSource.TheVariants as source
 use Rattle.byte_code.specs.declared.prim.CompareOp.TheVariants as compares
 use Rattle.byte_code.specs.declared.state.Bytes.{Bytes}
 use Rattle.byte_code.specs.Machine.{act, asked_by}
+use Rattle.byte_code.specs.Store.{in_byte}
 use Rattle.avr_mach.specs.declared.insn.AvrInsn.{AvrInsn}
 use Rattle.avr_mach.specs.declared.state.AvrState.{AvrState}
 use Rattle.avr_mach.specs.Step.{avr_step}
@@ -25,7 +28,7 @@ use Rattle.avr_mach.specs.Words.{size_of}
 use Rattle.avr_devices.specs.Part.{mega16}
 use Rattle.chip_tables.specs.declared.outside.PinReading.{PinReading}
 use Rattle.target_core.specs.Law.{MachineLaw, IsReady, Layout, LeadsFrom, here, has_words}
-use Rattle.avr_code.specs.Code.{Board, Piece, insn_of, words_by, words_of, size_in, is_wire, by_cell, bit_code, code_of, word_count, cycle_count}
+use Rattle.avr_code.specs.Code.{Board, Piece, insn_of, words_by, words_of, size_in, is_wire, by_cell, bit_code, fetch_code, held_code, put_wire, put_wire_if, copy_wire, copy_byte, code_of, word_count, cycle_count}
 use Rattle.avr_code.specs.Stands.{StandsAt}
 use Rattle.avr_code.specs.Target.{Admits, AdmitsBit, AdmitsWord, leave_count, avr_target}
 use Rattle.avr_code.proofs.Bits as bits
@@ -55,7 +58,7 @@ same_size board (Jump l) labels h = refl
 same_size board (JumpWhere test.LoopsOn l) labels h = refl
 same_size board (JumpWhere (test.Flag k true) l) labels h = refl
 same_size board (JumpWhere (test.Flag k false) l) labels h = refl
-same_size board (JumpWhere (test.Bit from is) l) labels h = refl
+same_size board (JumpWhere (test.Bit from is) l) labels h = bits.jump_sizes from is (slice_index labels l) (slice_index [] l)
 same_size board (JumpWhere test.NoByte l) labels h = absurd h
 same_size board (JumpWhere test.Sends l) labels h = absurd h
 same_size board (JumpWhere test.Writes l) labels h = absurd h
@@ -112,13 +115,36 @@ wire_full a power wire byte p w e = subst (λ j. IsFull (if a == 20 then power e
     by true = p
     by false = w
 
+full_behind : (l ps : List Piece) → IsFull ps → IsFull (l ++ ps)
+full_behind [] ps full = full
+full_behind (x ∷ l) ps full = tt
+
+either_full : (t : Bool) (a b : List Piece) → IsFull a → IsFull b → IsFull (if t then a else b)
+either_full true a b f g = f
+either_full false a b f g = g
+
+put_wire_full : (a : ℕ) (x : Bool) → IsFull (put_wire a x)
+put_wire_full a true = tt
+put_wire_full a false = tt
+
+put_wire_if_full : (from : BitSource) (is : Bool) (a : ℕ) (x : Bool) → IsFull (put_wire_if from is a x)
+put_wire_if_full from is a true = tt
+put_wire_if_full from is a false = tt
+
+copy_wire_full : (a : ℕ) (from : BitSource) (inverted : Bool) → IsFull (copy_wire a from inverted)
+copy_wire_full a (bit.Cell c b) inverted = either_full (is_wire c && not inverted) _ _ tt (full_behind (fetch_code (bit.Cell c b)) _ tt)
+copy_wire_full a (bit.Level port b) inverted = tt
+copy_wire_full a (bit.Latch port b) inverted = tt
+
 bit_full : (board : Board) (op : BitOp) → AdmitsBit board op → IsFull (bit_code op)
-bit_full board (ops.Put (dest.Cell a b) x) h = by_full a _ _ _ tt tt tt
+bit_full board (ops.Put (dest.Cell a b) x) h = by_full a _ _ _ tt (put_wire_full a x) (either_full (nat_lt a 32) _ _ tt tt)
 bit_full board (ops.Put (dest.Latch port b) x) h = tt
-bit_full board (ops.Copy (dest.Cell a b) from inverted) h = by_full a _ _ _ tt tt tt
-bit_full board (ops.Copy (dest.Latch port b) from inverted) h = tt
-bit_full board (ops.PutIf from is (dest.Cell a b) x) h = by_full a _ _ _ tt tt tt
-bit_full board (ops.PutIf from is (dest.Latch port b) x) h = tt
+bit_full board (ops.Copy (dest.Cell a b) from inverted) h =
+    either_full (is_wire a) (copy_wire a from inverted) (copy_byte a (in_byte b) from inverted) (copy_wire_full a from inverted) (full_behind (fetch_code from) _ tt)
+bit_full board (ops.Copy (dest.Latch port b) from inverted) h = full_behind (held_code from) _ tt
+bit_full board (ops.PutIf from is (dest.Cell a b) x) h =
+    full_behind (fetch_code from) _ (by_full a _ _ _ tt (put_wire_if_full from is a x) (either_full (nat_lt a 32) _ _ tt tt))
+bit_full board (ops.PutIf from is (dest.Latch port b) x) h = full_behind (fetch_code from) _ tt
 bit_full board (ops.PutOnFlag k is (dest.Cell a b) x) h = wire_full a _ _ _ tt tt h.0
 bit_full board (ops.PutOnFlag k is (dest.Latch port b) x) h = absurd h
 
@@ -128,7 +154,7 @@ worded board (Jump l) h e = lit< tt
 worded board (JumpWhere test.LoopsOn l) h e = lit< tt
 worded board (JumpWhere (test.Flag k true) l) h e = lit< tt
 worded board (JumpWhere (test.Flag k false) l) h e = lit< tt
-worded board (JumpWhere (test.Bit from is) l) h e = some_words (code_of board (JumpWhere (test.Bit from is) l) []) tt
+worded board (JumpWhere (test.Bit from is) l) h e = some_words (code_of board (JumpWhere (test.Bit from is) l) []) (full_behind (fetch_code from) _ tt)
 worded board (JumpWhere test.NoByte l) h e = absurd h
 worded board (JumpWhere test.Sends l) h e = absurd h
 worded board (JumpWhere test.Writes l) h e = absurd h

@@ -1,7 +1,7 @@
 -- The ATmega16's instructions for each primitive.
 --
 -- Once the start was done R1 holds 0; R16 to R19 hold nothing between two primitives. A word is computed in R16 and R17, its low byte first, with the other
--- operand in R18 and R19; the byte of a bit that is tested is in R18. The cells below 20h are registers, and the others are in the SRAM.
+-- operand in R18 and R19; a bit of the SRAM is tested in R18, and any other where it is. The cells below 20h are registers, and the others are in the SRAM.
 use Rattle.std.specs.Prelude.{ℕ, zero, suc, ◌+◌, ◌-◌, ◌*◌, ◌/◌, ◌%◌, ◌^◌, ◌==◌, ◌&&◌, ◌||◌, not, nat_le, nat_lt, Bool, true, false, if◌then◌else◌, List, [], ◌∷◌, ◌++◌, take, slice_index}
 use Rattle.chip_tables.specs.Bits.{as_bit}
 use Rattle.chip_tables.specs.declared.pins.PortBit.{PortBit}
@@ -43,8 +43,9 @@ abbrev pub direction : List PortBit → ℕ → ℕ
 direction [] port = 0
 direction (p ∷ ps) port = if p.port == port then with_bit (direction ps port) (in_byte p.bit) true else direction ps port
 
--- An instruction; or one by which a register takes a cell, or a cell a register; by which R18 takes the byte of a bit; by which a cell that is a register
--- takes another register; by which a bit of a latch becomes so.
+-- An instruction; or one by which a register takes a cell, or a cell a register; by which R18 takes the register of a port's bit; by which a cell that is a
+-- register takes another register; by which a bit of a latch becomes so; by which the next instruction is passed over where a bit is so; by which a register
+-- takes or loses the bits of another.
 pub data Piece : Type 0 where
   Plain : (i : AvrInsn) → Piece
   Loads : (r a : ℕ) → Piece
@@ -52,6 +53,17 @@ pub data Piece : Type 0 where
   Fetches : (from : BitSource) → Piece
   Gives : (a r : ℕ) → Piece
   Latches : (port b : ℕ) (x : Bool) → Piece
+  Skips : (from : BitSource) (is : Bool) → Piece
+  Mixes : (d r : ℕ) (x : Bool) → Piece
+
+-- passes over the next instruction where bit b of a register is so, or of an I/O register
+abbrev pub skip_of : Bool → ℕ → ℕ → AvrInsn
+skip_of true r b = insn.Sbrs r b
+skip_of false r b = insn.Sbrc r b
+
+abbrev pub io_skip : Bool → ℕ → ℕ → AvrInsn
+io_skip true a b = insn.Sbis a b
+io_skip false a b = insn.Sbic a b
 
 abbrev pub insn_of : Piece → AvrInsn
 insn_of (Plain i) = i
@@ -63,6 +75,11 @@ insn_of (Fetches (bit.Latch port b)) = insn.In 18 (latch_address port)
 insn_of (Gives a r) = insn.Mov a r
 insn_of (Latches port b true) = insn.Sbi (latch_address port) b
 insn_of (Latches port b false) = insn.Cbi (latch_address port) b
+insn_of (Skips (bit.Cell a b) is) = if nat_lt a IO_FIRST then skip_of is a (in_byte b) else skip_of is 18 (in_byte b)
+insn_of (Skips (bit.Level port b) is) = io_skip is (level_address port) (in_byte b)
+insn_of (Skips (bit.Latch port b) is) = io_skip is (latch_address port) (in_byte b)
+insn_of (Mixes d r true) = insn.Or d r
+insn_of (Mixes d r false) = insn.And d r
 
 -- the bit of the status register that holds a comparison: S, Z and C
 abbrev pub status_bit : FlagKind → ℕ
@@ -74,54 +91,85 @@ status_bit kind.Below = 0
 abbrev pub is_wire : ℕ → Bool
 is_wire r = r == 20 || (nat_le 2 r && nat_le r 9)
 
--- the number of the bit in its byte
-abbrev pub bit_no : BitSource → ℕ
-bit_no (bit.Cell a b) = in_byte b
-bit_no (bit.Level port b) = in_byte b
-bit_no (bit.Latch port b) = in_byte b
-
--- passes over the next instruction unless the bit that was fetched is so
-abbrev pub unless : BitSource → Bool → Piece
-unless from true = Plain (insn.Sbrc 18 (bit_no from))
-unless from false = Plain (insn.Sbrs 18 (bit_no from))
-
--- sets or clears in R16 the bit by the mask in R17
+-- the mask by which a bit is set or cleared
 abbrev pub mask_of : Bool → ℕ → ℕ
 mask_of true b = 2 ^ b
 mask_of false b = 255 - 2 ^ b
 
-abbrev pub masked : Bool → Piece
-masked true = Plain (insn.Or 16 17)
-masked false = Plain (insn.And 16 17)
+-- a bit of the SRAM is fetched into R18
+abbrev pub fetch_code : BitSource → List Piece
+fetch_code (bit.Cell a b) = if nat_lt a IO_FIRST then [] else Loads 18 a ∷ []
+fetch_code (bit.Level port b) = []
+fetch_code (bit.Latch port b) = []
 
 -- by what a cell is: the wire of R20, another wire, or a byte
 abbrev pub by_cell : {X : Type 0} → ℕ → X → X → X → X
 by_cell a power wire byte = if a == 20 then power else if is_wire a then wire else byte
 
+-- R1 holds 0
+abbrev pub put_wire : ℕ → Bool → List Piece
+put_wire a true = Plain (insn.Ldi 16 1) ∷ Gives a 16 ∷ []
+put_wire a false = Gives a 1 ∷ []
+
+-- a byte that is a register is changed where it is
+abbrev pub put_byte : ℕ → ℕ → Bool → List Piece
+put_byte a b x =
+    if nat_lt a IO_FIRST then Plain (insn.Ldi 17 (mask_of x b)) ∷ Mixes a 17 x ∷ []
+    else Loads 16 a ∷ Plain (insn.Ldi 17 (mask_of x b)) ∷ Mixes 16 17 x ∷ Stores a 16 ∷ []
+
 abbrev pub put_code : BitDest → Bool → List Piece
-put_code (dest.Cell a b) x =
-    by_cell a (Plain (insn.Ldi 20 (as_bit x)) ∷ []) (Plain (insn.Ldi 16 (as_bit x)) ∷ Gives a 16 ∷ [])
-    (Loads 16 a ∷ Plain (insn.Ldi 17 (mask_of x (in_byte b))) ∷ masked x ∷ Stores a 16 ∷ [])
+put_code (dest.Cell a b) x = by_cell a (Plain (insn.Ldi 20 (as_bit x)) ∷ []) (put_wire a x) (put_byte a (in_byte b) x)
 put_code (dest.Latch port b) x = Latches port (in_byte b) x ∷ []
+
+abbrev pub put_wire_if : BitSource → Bool → ℕ → Bool → List Piece
+put_wire_if from is a true = Plain (insn.Ldi 16 1) ∷ Skips from (not is) ∷ Gives a 16 ∷ []
+put_wire_if from is a false = Skips from (not is) ∷ Gives a 1 ∷ []
+
+abbrev pub put_byte_if : BitSource → Bool → ℕ → ℕ → Bool → List Piece
+put_byte_if from is a b x =
+    if nat_lt a IO_FIRST then Plain (insn.Ldi 17 (mask_of x b)) ∷ Skips from (not is) ∷ Mixes a 17 x ∷ []
+    else Loads 16 a ∷ Plain (insn.Ldi 17 (mask_of x b)) ∷ Skips from (not is) ∷ Mixes 16 17 x ∷ Stores a 16 ∷ []
 
 abbrev pub put_if_code : BitSource → Bool → BitDest → Bool → List Piece
 put_if_code from is (dest.Cell a b) x =
-    by_cell a (Fetches from ∷ unless from is ∷ Plain (insn.Ldi 20 (as_bit x)) ∷ [])
-    (Fetches from ∷ Plain (insn.Ldi 16 (as_bit x)) ∷ unless from is ∷ Gives a 16 ∷ [])
-    (Fetches from ∷ Loads 16 a ∷ Plain (insn.Ldi 17 (mask_of x (in_byte b))) ∷ unless from is ∷ masked x ∷ Stores a 16 ∷ [])
-put_if_code from is (dest.Latch port b) x = Fetches from ∷ unless from is ∷ Latches port (in_byte b) x ∷ []
+    fetch_code from ++ by_cell a (Skips from (not is) ∷ Plain (insn.Ldi 20 (as_bit x)) ∷ []) (put_wire_if from is a x) (put_byte_if from is a (in_byte b) x)
+put_if_code from is (dest.Latch port b) x = fetch_code from ++ (Skips from (not is) ∷ Latches port (in_byte b) x ∷ [])
 
--- a bit of a byte or of a latch is set by one test and cleared by another, so that it takes no other value on the way
+-- a level or a latch is read once, into R18, where it is tested twice
+abbrev pub held_code : BitSource → List Piece
+held_code (bit.Cell a b) = fetch_code (bit.Cell a b)
+held_code (bit.Level port b) = Fetches (bit.Level port b) ∷ []
+held_code (bit.Latch port b) = Fetches (bit.Latch port b) ∷ []
+
+abbrev pub held_at : BitSource → BitSource
+held_at (bit.Cell a b) = bit.Cell a b
+held_at (bit.Level port b) = bit.Cell 18 b
+held_at (bit.Latch port b) = bit.Cell 18 b
+
+-- a wire takes a bit by way of R16
+abbrev pub wire_taken : ℕ → BitSource → Bool → List Piece
+wire_taken a from inverted =
+    fetch_code from
+    ++ (Plain (insn.Ldi 16 (as_bit inverted)) ∷ Skips from false ∷ Plain (insn.Ldi 16 (as_bit (not inverted))) ∷ Gives a 16 ∷ [])
+
+-- or another wire as it is, whose other bits are any too
+abbrev pub copy_wire : ℕ → BitSource → Bool → List Piece
+copy_wire a (bit.Cell c b) inverted = if is_wire c && not inverted then Gives a c ∷ [] else wire_taken a (bit.Cell c b) inverted
+copy_wire a (bit.Level port b) inverted = wire_taken a (bit.Level port b) inverted
+copy_wire a (bit.Latch port b) inverted = wire_taken a (bit.Latch port b) inverted
+
+-- the bit is set, and where it is to be cleared turned round
+abbrev pub copy_byte : ℕ → ℕ → BitSource → Bool → List Piece
+copy_byte a b from inverted =
+    fetch_code from
+    ++ (Loads 16 a ∷ Plain (insn.Ldi 17 (2 ^ b)) ∷ Mixes 16 17 true ∷ Skips from (not inverted) ∷ Plain (insn.Eor 16 17) ∷ Stores a 16 ∷ [])
+
+-- a bit of a latch is set by one test and cleared by another, so that it takes no other value on the way
 abbrev pub copy_code : BitDest → BitSource → Bool → List Piece
-copy_code (dest.Cell a b) from inverted =
-    by_cell a
-    (Fetches from ∷ Plain (insn.Ldi 20 (as_bit inverted)) ∷ Plain (insn.Sbrc 18 (bit_no from)) ∷ Plain (insn.Ldi 20 (as_bit (not inverted))) ∷ [])
-    (Fetches from ∷ Plain (insn.Ldi 16 (as_bit inverted)) ∷ Plain (insn.Sbrc 18 (bit_no from)) ∷ Plain (insn.Ldi 16 (as_bit (not inverted))) ∷ Gives a 16 ∷
-    [])
-    (Fetches from ∷ Loads 16 a ∷ Plain (insn.Ldi 17 (2 ^ in_byte b)) ∷ Plain (insn.Ldi 19 (255 - 2 ^ in_byte b)) ∷ unless from (not inverted) ∷
-    Plain (insn.Or 16 17) ∷ unless from inverted ∷ Plain (insn.And 16 19) ∷ Stores a 16 ∷ [])
+copy_code (dest.Cell a b) from inverted = if is_wire a then copy_wire a from inverted else copy_byte a (in_byte b) from inverted
 copy_code (dest.Latch port b) from inverted =
-    Fetches from ∷ unless from (not inverted) ∷ Latches port (in_byte b) true ∷ unless from inverted ∷ Latches port (in_byte b) false ∷ []
+    held_code from
+    ++ (Skips (held_at from) inverted ∷ Latches port (in_byte b) true ∷ Skips (held_at from) (not inverted) ∷ Latches port (in_byte b) false ∷ [])
 
 -- passes over one word unless the flag is so
 abbrev pub unless_flag : FlagKind → Bool → Piece
@@ -148,7 +196,7 @@ jump_on s false place = Plain (insn.Brbs s 2) ∷ Plain (insn.Jmp place) ∷ []
 abbrev pub test_code : Test → ℕ → List Piece
 test_code test.LoopsOn place = Plain (insn.Dec 21) ∷ jump_on 1 false place
 test_code (test.Flag k is) place = jump_on (status_bit k) is place
-test_code (test.Bit from is) place = Fetches from ∷ unless from is ∷ Plain (insn.Jmp place) ∷ []
+test_code (test.Bit from is) place = fetch_code from ++ (Skips from (not is) ∷ Plain (insn.Jmp place) ∷ [])
 test_code test.NoByte place = []
 test_code test.Sends place = []
 test_code test.Writes place = []
