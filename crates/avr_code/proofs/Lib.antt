@@ -8,6 +8,7 @@ pub mod Standing
 pub mod Sums
 pub mod Compares
 pub mod Primitives
+pub mod Moves
 pub mod Products
 pub mod Bits
 pub mod Tables

@@ -42,7 +42,7 @@ use Rattle.avr_code.proofs.Compares.{equal_words, below_words, less_words}
 use Rattle.avr_code.proofs.Effects.{InsnFits, PieceFits, FetchFits, result}
 use Rattle.avr_code.proofs.Paths.{Paths, At, Fork, Near, Ahead, Lost, bump, paths, AllGood, AllPiecesFit, good_paths}
 use Rattle.avr_code.proofs.Standing.{Has, Alike, ViewStands, view_of, view_seen, to_view, from_view, alike, has_same, has_cell, has_word}
-use Rattle.avr_code.proofs.Sums.{added_low, added_high, more_low, more_high, less_low, less_high, taken_low, taken_high, word_low, word_high}
+use Rattle.avr_code.proofs.Sums.{added_low, added_high, more_low, more_high, less_low, less_high, taken_low, taken_high}
 use Rattle.avr_code.proofs.View.{View, see, changed, moved, set_index}
 use Rattle.avr_code.proofs.Walk.{HasCode, AllFit, code_held}
 
@@ -264,79 +264,6 @@ module _ (board : Board) (lay : Layout) (m : AvrState) (s : Bytes) where
 
   abbrev pub Goes : BytePrim → Type 0
   Goes p = Moves (steps_over (avr_step mega16) lay.flash) (StandsAt board lay.places) m (cycle_count board p) s (act lay.code p s false no_reading)
-
-  pub put_byte : (to x : ℕ) → Ready (Byte (bytes.Put to x)) → StandsAt board lay.places m s → Goes (Byte (bytes.Put to x))
-  put_byte to x ready st = coded (Byte (bytes.Put to x)) (Plain (insn.Ldi 16 x)) (Stores to 16 ∷ []) ready refl refl refl
-      ((lit≤ tt, lit< tt, ready.admitted.1), ((lit< tt, ready.admitted.0), tt)) st
-      (λ v h. (
-        le_more _,
-        record {
-          has = has_cell board lay.places v _ s (alike v _ refl refl refl
-              (λ port. refl) refl refl refl refl) h.has to x x ready.admitted.0 refl refl ready.admitted.1;
-          at = two_on v.core.place 1 (store_size to 16) _ _ h.at ready.next;
-        },
-      ))
-
-  pub copy_byte : (to from : ℕ) → Ready (Byte (bytes.Copy to from)) → StandsAt board lay.places m s → Goes (Byte (bytes.Copy to from))
-  copy_byte to from ready st = coded (Byte (bytes.Copy to from)) (Loads 16 from) (Stores to 16 ∷ []) ready refl refl refl
-      ((lit< tt, ready.admitted.1), ((lit< tt, ready.admitted.0), tt)) st
-      (λ v h. (
-        le_more _,
-        record {
-          has = has_cell board lay.places v _ s (alike v _ refl refl refl (λ port. refl) refl refl refl refl) h.has to (v.cells from)
-              (cell s.store from) ready.admitted.0
-              refl
-              (h.has.holds.cells from ready.admitted.1) (h.has.holds.bytes from);
-          at = two_on v.core.place (load_size 16 from) (store_size to 16) _ _ h.at ready.next;
-        },
-      ))
-
-  pub move_cells : (to : ℕ) (from : ℕ) → Ready (Word (words.Move to (source.Cells from))) → StandsAt board lay.places m s →
-      Goes (Word (words.Move to (source.Cells
-      from)))
-  move_cells to from ready st = coded (Word (words.Move to (source.Cells from))) (Loads 16 from) (Loads 17 (from + 1) ∷ Stores to 16 ∷ Stores (to + 1) 17 ∷
-      []) ready refl refl refl
-      ((lit< tt, ready.admitted.1.0), ((lit< tt, ready.admitted.1.1), ((lit< tt, ready.admitted.0.0), ((lit< tt, ready.admitted.0.1), tt)))) st
-      (λ v h. (
-        le_more _,
-        record {
-          has = has_word board lay.places v _ s (alike v _ refl refl refl (λ port. refl) refl refl refl refl) h.has to _ _
-              (word_from s.store (source.Cells from))
-              ready.admitted.0.0 ready.admitted.0.1 refl
-              (word_low (cell s.store from) (cell s.store (from + 1)) _ (h.has.holds.cells from ready.admitted.1.0) (h.has.holds.bytes from))
-              (word_high (cell s.store from) (cell s.store (from + 1)) _ (h.has.holds.cells (from + 1) ready.admitted.1.1) (h.has.holds.bytes from)
-              (h.has.holds.bytes (from + 1)));
-          at = four_on v.core.place (load_size 16 from) (load_size 17 (from + 1)) (store_size to 16) (store_size (to + 1) 17) _ _ h.at ready.next;
-        },
-      ))
-
-  pub move_number : (to : ℕ) (from_low from_high : ℕ) → Ready (Word (words.Move to (source.Number from_low from_high))) → StandsAt board lay.places m s → Goes
-      (Word (words.Move to (source.Number from_low from_high)))
-  move_number to from_low from_high ready st = coded (Word (words.Move to (source.Number from_low from_high))) (Plain (insn.Ldi 16 from_low))
-      (Plain (insn.Ldi 17 from_high) ∷ Stores to 16 ∷ Stores (to + 1) 17 ∷ []) ready refl refl refl (
-        (lit≤ tt, lit< tt, ready.admitted.1.0),
-        (
-          (lit≤ tt, lit< tt, ready.admitted.1.1),
-          (
-            (lit< tt, ready.admitted.0.0),
-            (
-              (lit< tt, ready.admitted.0.1),
-              tt,
-            ),
-          ),
-        ),
-      ) st
-      (λ v h. (
-        le_more _,
-        record {
-          has = has_word board lay.places v _ s (alike v _ refl refl refl (λ port. refl) refl refl refl refl) h.has to _ _
-              (word_from s.store (source.Number from_low
-              from_high)) ready.admitted.0.0 ready.admitted.0.1 refl
-              (word_low from_low from_high _ refl ready.admitted.1.0)
-              (word_high from_low from_high _ refl ready.admitted.1.0 ready.admitted.1.1);
-          at = four_on v.core.place 1 1 (store_size to 16) (store_size (to + 1) 17) _ _ h.at ready.next;
-        },
-      ))
 
   pub increment : (to : ℕ) → Ready (Word (words.Increment to)) → StandsAt board lay.places m s → Goes (Word (words.Increment to))
   increment to ready st = coded (Word (words.Increment to)) (Loads 16 to) (Loads 17 (to + 1) ∷ Plain (insn.Bset 0) ∷ Plain (insn.Adc 16 1) ∷ Plain (insn.Adc

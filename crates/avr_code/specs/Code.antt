@@ -162,9 +162,29 @@ word_loaded r (source.Number low high) = Plain (insn.Ldi r low) ∷ Plain (insn.
 abbrev pub word_stored : ℕ → List Piece
 word_stored a = Stores a 16 ∷ Stores (a + 1) 17 ∷ []
 
+-- a cell that is one of the registers that LDI takes
+abbrev pub takes_number : ℕ → Bool
+takes_number a = nat_le 16 a && nat_lt a IO_FIRST
+
+-- A cell becomes a number, and then the rest: 0 is that of R1, a register takes another number by itself, and any other cell by R16.
+abbrev pub byte_set : ℕ → ℕ → List Piece → List Piece
+byte_set a x rest =
+    if x == 0 then Stores a 1 ∷ rest else if takes_number a then Plain (insn.Ldi a x) ∷ rest else Plain (insn.Ldi 16 x) ∷ Stores a 16 ∷ rest
+
+-- A cell becomes another one, and then the rest: by R16, where none of the two is a register.
+abbrev pub byte_moved : ℕ → ℕ → List Piece → List Piece
+byte_moved to from rest =
+    if nat_lt to IO_FIRST then Loads to from ∷ rest else if nat_lt from IO_FIRST then Stores to from ∷ rest else Loads 16 from ∷ Stores to 16 ∷ rest
+
+-- the low byte first, but the high one where the low one would take its place
+abbrev pub move_code : ℕ → WordSource → List Piece
+move_code to (source.Number low high) = byte_set to low (byte_set (to + 1) high [])
+move_code to (source.Cells from) =
+    if to == from + 1 then byte_moved (to + 1) (from + 1) (byte_moved to from []) else byte_moved to from (byte_moved (to + 1) (from + 1) [])
+
 abbrev pub byte_code : ByteOp → List Piece
-byte_code (bytes.Put to x) = Plain (insn.Ldi 16 x) ∷ Stores to 16 ∷ []
-byte_code (bytes.Copy to from) = Loads 16 from ∷ Stores to 16 ∷ []
+byte_code (bytes.Put to x) = byte_set to x []
+byte_code (bytes.Copy to from) = byte_moved to from []
 byte_code (bytes.Xor to a b) = Loads 16 a ∷ Loads 17 b ∷ Plain (insn.Eor 16 17) ∷ Stores to 16 ∷ []
 
 -- the product takes R24 and R25 by the lowest bits of R22 and R23, and the quotient the next bit
@@ -185,7 +205,7 @@ negate_code to sign =
     ∷ Plain (insn.Adc 16 1) ∷ Plain (insn.Adc 17 1) ∷ word_stored to
 
 abbrev pub word_code : WordOp → List Piece
-word_code (words.Move to from) = word_loaded 16 from ++ word_stored to
+word_code (words.Move to from) = move_code to from
 word_code (words.Increment to) =
     Loads 16 to ∷ Loads 17 (to + 1) ∷ Plain (insn.Bset 0) ∷ Plain (insn.Adc 16 1) ∷ Plain (insn.Adc 17 1) ∷ word_stored to
 word_code (words.Decrement to) =
