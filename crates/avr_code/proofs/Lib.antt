@@ -9,6 +9,7 @@ pub mod Sums
 pub mod Compares
 pub mod Primitives
 pub mod Moves
+pub mod Numbers
 pub mod Products
 pub mod Bits
 pub mod Tables

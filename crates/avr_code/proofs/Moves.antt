@@ -14,7 +14,7 @@ use Rattle.byte_code.specs.Store.{cell, word_from}
 use Rattle.avr_mach.specs.declared.insn.AvrInsn.TheVariants as insn
 use Rattle.avr_mach.specs.declared.state.AvrState.{AvrState}
 use Rattle.target_core.specs.Law.{Layout}
-use Rattle.avr_code.specs.Code.{Board, Piece, Plain, Loads, Stores, code_of, size_in, word_count, takes_number, byte_set, byte_moved, move_code}
+use Rattle.avr_code.specs.Code.{more_cycles, Board, Piece, Plain, Loads, Stores, code_of, size_in, word_count, takes_number, byte_set, byte_moved, move_code}
 use Rattle.avr_code.specs.Stands.{is_work, IsCell, StandsAt}
 use Rattle.avr_code.proofs.Paths.{Paths, paths, AllGood, AllPiecesFit}
 use Rattle.avr_code.proofs.Primitives.{Ready, Ends, Good, Goes, coded, good_bump, load_size, store_size}
@@ -201,6 +201,17 @@ module _ (board : Board) (lay : Layout) (m : AvrState) (s : Bytes) where
   listed p [] full ready is size quiet fit st good = absurd full
   listed p (q ∷ ps) full ready is size quiet fit st good = coded board lay m s p q ps ready is size quiet fit st good
 
+  -- the same, where the code is chosen by what the primitive names
+  pub chosen : (p : BytePrim) (ps : List Piece) → IsFull ps → Ready' p → code_of board p lay.labels ≡ ps → code_of board p [] ≡ ps → more_cycles p ≡ 0 →
+      (act lay.code p s false no_reading).sent ≡ [] → AllPiecesFit ps → StandsAt board lay.places m s →
+      (slice_index lay.places (suc s.place) ≡ slice_index lay.places s.place + size_in ps → (v : View) → ViewStands board lay.places v s →
+      AllGood (size_in ps) (Ends' p) (paths ps 0 v)) → Goes' p
+  chosen p ps full ready here alone no_more quiet fit st good =
+      let size = ap size_in alone in
+      listed p ps full ready here (sym size) quiet fit st (λ v h. subst (λ n. AllGood n (Ends' p) (paths ps 0 v)) (sym (ap₂ (λ n k. n + k) size no_more))
+      (good_more (size_in ps) (Ends' p) (paths ps 0 v)
+      (good (subst (λ n. slice_index lay.places (suc s.place) ≡ slice_index lay.places s.place + n) size ready.next) v h)))
+
   pub put_byte : (to x : ℕ) → Ready' (Byte (bytes.Put to x)) → StandsAt board lay.places m s → Goes' (Byte (bytes.Put to x))
   put_byte to x ready st =
       let in' = ready.admitted.0 in
@@ -273,8 +284,8 @@ module _ (board : Board) (lay : Layout) (m : AvrState) (s : Bytes) where
       down : List Piece
       down = byte_moved (to + 1) (from + 1) (byte_moved to from [])
 
-      chosen : Bool → List Piece
-      chosen b = if b then down else up
+      either : Bool → List Piece
+      either b = if b then down else up
 
       in1 : IsCell to
       in1 = ready.admitted.0.0
@@ -314,17 +325,8 @@ module _ (board : Board) (lay : Layout) (m : AvrState) (s : Bytes) where
           )))
 
       by : (b : Bool) → (to == from + 1) ≡ b → Goes' p
-      by true e =
-          let is = ap chosen e in
-          listed p down (moved_full (to + 1) (from + 1) (byte_moved to from []) in2 at2) ready is (sym (ap size_in is)) refl
-          (moved_fits (to + 1) (from + 1) (byte_moved to from []) in2 at2 (moved_fits to from [] in1 at1 tt)) st
-          (λ v h. subst (λ n. AllGood (n + 0) (Ends' p) (paths down 0 v)) (sym (ap size_in is)) (good_more _ _ _
-          (high_first (eqb-true to (from + 1) e) (subst (λ n. slice_index lay.places (suc s.place) ≡ slice_index lay.places s.place + n) (ap size_in is)
-          ready.next) v h)))
-      by false e =
-          let is = ap chosen e in
-          listed p up (moved_full to from (byte_moved (to + 1) (from + 1) []) in1 at1) ready is (sym (ap size_in is)) refl
+      by true e = chosen p down (moved_full (to + 1) (from + 1) (byte_moved to from []) in2 at2) ready (ap either e) (ap either e) refl refl
+          (moved_fits (to + 1) (from + 1) (byte_moved to from []) in2 at2 (moved_fits to from [] in1 at1 tt)) st (high_first (eqb-true to (from + 1) e))
+      by false e = chosen p up (moved_full to from (byte_moved (to + 1) (from + 1) []) in1 at1) ready (ap either e) (ap either e) refl refl
           (moved_fits to from (byte_moved (to + 1) (from + 1) []) in1 at1 (moved_fits (to + 1) (from + 1) [] in2 at2 tt)) st
-          (λ v h. subst (λ n. AllGood (n + 0) (Ends' p) (paths up 0 v)) (sym (ap size_in is)) (good_more _ _ _
-          (low_first (eqb-false to (from + 1) e) (subst (λ n. slice_index lay.places (suc s.place) ≡ slice_index lay.places s.place + n) (ap size_in is)
-          ready.next) v h)))
+          (low_first (eqb-false to (from + 1) e))

@@ -213,7 +213,7 @@ elsewhere board places w s q h = record { holds = h.holds; settings = h.settings
 six_on : (n a b c d p q : ℕ) → n ≡ p → q ≡ p + (a + (b + (c + (d + (1 + (1 + 0)))))) → n + a + b + c + d + 1 + 1 ≡ q
 six_on n a b c d p q e f = omega (arith, e, f)
 
-abbrev zero_of : ℕ → ℕ → ℕ → ℕ → Bool
+abbrev pub zero_of : ℕ → ℕ → ℕ → ℕ → Bool
 zero_of x z y w = (difference x y 0 == 0) && (difference z w (as_bit (nat_lt x (y + 0))) == 0)
 
 pub equal_flag : (a b c d x z y w : ℕ) → x ≡ a → z ≡ b → y ≡ c → w ≡ d → a < 256 → b < 256 → c < 256 → d < 256 →
@@ -221,12 +221,12 @@ pub equal_flag : (a b c d x z y w : ℕ) → x ≡ a → z ≡ b → y ≡ c →
 equal_flag a b c d x z y w e f g h ha hb hc hd =
     ap₂ (λ x z. zero_of x z y w) e f ∙ ap₂ (λ y w. zero_of a b y w) g h ∙ equal_words a b c d ha hb hc hd
 
-abbrev sign_of : ℕ → ℕ → ℕ → ℕ → Bool
+abbrev pub sign_of : ℕ → ℕ → ℕ → ℕ → Bool
 sign_of x z y w =
     let n = nat_le 128 (difference z w (as_bit (nat_lt x (y + 0)))) in
     differ n (nat_le 128 z && (not (nat_le 128 w) && not n) || not (nat_le 128 z) && (nat_le 128 w && n))
 
-less_flag : (a b c d x z y w : ℕ) → x ≡ a → z ≡ b → y ≡ c → w ≡ d → a < 256 → b < 256 → c < 256 → d < 256 →
+pub less_flag : (a b c d x z y w : ℕ) → x ≡ a → z ≡ b → y ≡ c → w ≡ d → a < 256 → b < 256 → c < 256 → d < 256 →
     sign_of x z y w ≡ nat_lt (lifted (a + b * 256)) (lifted (c + d * 256))
 less_flag a b c d x z y w e f g h ha hb hc hd =
     ap₂ (λ x z. sign_of x z y w) e f ∙ ap₂ (λ y w. sign_of a b y w) g h ∙ less_words a b c d ha hb hc hd
@@ -377,35 +377,6 @@ module _ (board : Board) (lay : Layout) (m : AvrState) (s : Bytes) where
               (h.has.holds.bytes a) (h.has.holds.bytes b));
           at = eight_on v.core.place (load_size 16 a) (load_size 17 (a + 1)) (load_size 18 b) (load_size 19 (b + 1)) (store_size to 16) (store_size (to + 1)
               17) _ _ h.at ready.next;
-        },
-      ))
-
-  pub add_number : (to a : ℕ) (b_low b_high : ℕ) → Ready (Word (words.Add to a (source.Number b_low b_high))) → StandsAt board lay.places m s → Goes (Word
-      (words.Add to a (source.Number b_low b_high)))
-  add_number to a b_low b_high ready st = coded (Word (words.Add to a (source.Number b_low b_high))) (Loads 16 a) (Loads 17 (a + 1) ∷ Plain (insn.Ldi 18
-      b_low) ∷ Plain (insn.Ldi 19 b_high) ∷ Plain (insn.Add 16 18) ∷ Plain (insn.Adc 17 19) ∷ Stores to 16 ∷ Stores (to + 1) 17 ∷ []) ready refl refl refl (
-        (lit< tt, ready.admitted.1.0),
-        (
-          (lit< tt, ready.admitted.1.1),
-          (
-            (lit≤ tt, lit< tt, ready.admitted.2.0),
-            (
-              (lit≤ tt, lit< tt, ready.admitted.2.1),
-              ((lit< tt, lit< tt), ((lit< tt, lit< tt), ((lit< tt, ready.admitted.0.0), ((lit< tt, ready.admitted.0.1), tt)))),
-            ),
-          ),
-        ),
-      ) st
-      (λ v h. (
-        le_more _,
-        record {
-          has = has_word board lay.places v _ s (alike v _ refl refl refl (λ port. refl) refl refl refl refl) h.has to _ _
-              ((word_at s.store a + word_from s.store
-              (source.Number b_low b_high)) % 65536) ready.admitted.0.0 ready.admitted.0.1 refl
-              (added_low (cell s.store a) (cell s.store (a + 1)) b_low b_high _ _ (h.has.holds.cells a ready.admitted.1.0) refl)
-              (added_high (cell s.store a) (cell s.store (a + 1)) b_low b_high _ _ _ _ (h.has.holds.cells a ready.admitted.1.0) (h.has.holds.cells (a + 1)
-              ready.admitted.1.1) refl refl (h.has.holds.bytes a) ready.admitted.2.0);
-          at = eight_on v.core.place (load_size 16 a) (load_size 17 (a + 1)) 1 1 (store_size to 16) (store_size (to + 1) 17) _ _ h.at ready.next;
         },
       ))
 
@@ -718,34 +689,6 @@ module _ (board : Board) (lay : Layout) (m : AvrState) (s : Bytes) where
         },
       ))
 
-  pub less_number : (a : ℕ) (b_low b_high : ℕ) → Ready (Compare (compares.Less a (source.Number b_low b_high))) → StandsAt board lay.places m s → Goes (Compare
-      (compares.Less a (source.Number b_low b_high)))
-  less_number a b_low b_high ready st = coded (Compare (compares.Less a (source.Number b_low b_high))) (Loads 16 a) (Loads 17 (a + 1) ∷ Plain (insn.Ldi 18
-      b_low) ∷ Plain (insn.Ldi 19 b_high) ∷ Plain (insn.Cp 16 18) ∷ Plain (insn.Cpc 17 19) ∷ []) ready refl refl refl (
-        (lit< tt, ready.admitted.0.0),
-        (
-          (lit< tt, ready.admitted.0.1),
-          (
-            (lit≤ tt, lit< tt, ready.admitted.1.0),
-            (
-              (lit≤ tt, lit< tt, ready.admitted.1.1),
-              ((lit< tt, lit< tt), ((lit< tt, lit< tt), tt)),
-            ),
-          ),
-        ),
-      ) st
-      (λ v h. (
-        le_more _,
-        record {
-          has = has_same board lay.places v _ s (alike v _ refl refl refl (λ port. refl) refl refl refl refl) h.has
-              (Some (record { kind = kind.Less; value = nat_lt (lifted (word_at s.store a)) (lifted (word_from s.store (source.Number b_low b_high))) }))
-              (suc s.place) refl
-              (less_flag (cell s.store a) (cell s.store (a + 1)) b_low b_high _ _ _ _ (h.has.holds.cells a ready.admitted.0.0) (h.has.holds.cells (a + 1)
-              ready.admitted.0.1) refl refl (h.has.holds.bytes a) (h.has.holds.bytes (a + 1)) ready.admitted.1.0 ready.admitted.1.1);
-          at = six_on v.core.place (load_size 16 a) (load_size 17 (a + 1)) 1 1 _ _ h.at ready.next;
-        },
-      ))
-
   pub equal_cells : (a : ℕ) (b : ℕ) → Ready (Compare (compares.Equal a (source.Cells b))) → StandsAt board lay.places m s → Goes (Compare (compares.Equal a
       (source.Cells b)))
   equal_cells a b ready st = coded (Compare (compares.Equal a (source.Cells b))) (Loads 16 a) (Loads 17 (a + 1) ∷ Loads 18 b ∷ Loads 19 (b + 1) ∷
@@ -774,34 +717,6 @@ module _ (board : Board) (lay : Layout) (m : AvrState) (s : Bytes) where
               (h.has.holds.cells (a + 1) ready.admitted.0.1) (h.has.holds.cells b ready.admitted.1.0) (h.has.holds.cells (b + 1) ready.admitted.1.1)
               (h.has.holds.bytes a) (h.has.holds.bytes (a + 1)) (h.has.holds.bytes b) (h.has.holds.bytes (b + 1)));
           at = six_on v.core.place (load_size 16 a) (load_size 17 (a + 1)) (load_size 18 b) (load_size 19 (b + 1)) _ _ h.at ready.next;
-        },
-      ))
-
-  pub equal_number : (a : ℕ) (b_low b_high : ℕ) → Ready (Compare (compares.Equal a (source.Number b_low b_high))) → StandsAt board lay.places m s →
-      Goes (Compare
-      (compares.Equal a (source.Number b_low b_high)))
-  equal_number a b_low b_high ready st = coded (Compare (compares.Equal a (source.Number b_low b_high))) (Loads 16 a) (Loads 17 (a + 1) ∷ Plain (insn.Ldi 18
-      b_low) ∷ Plain (insn.Ldi 19 b_high) ∷ Plain (insn.Cp 16 18) ∷ Plain (insn.Cpc 17 19) ∷ []) ready refl refl refl (
-        (lit< tt, ready.admitted.0.0),
-        (
-          (lit< tt, ready.admitted.0.1),
-          (
-            (lit≤ tt, lit< tt, ready.admitted.1.0),
-            (
-              (lit≤ tt, lit< tt, ready.admitted.1.1),
-              ((lit< tt, lit< tt), ((lit< tt, lit< tt), tt)),
-            ),
-          ),
-        ),
-      ) st
-      (λ v h. (
-        le_more _,
-        record {
-          has = has_same board lay.places v _ s (alike v _ refl refl refl (λ port. refl) refl refl refl refl) h.has
-              (Some (record { kind = kind.Equal; value = word_at s.store a == word_from s.store (source.Number b_low b_high) })) (suc s.place) refl
-              (equal_flag (cell s.store a) (cell s.store (a + 1)) b_low b_high _ _ _ _ (h.has.holds.cells a ready.admitted.0.0) (h.has.holds.cells (a + 1)
-              ready.admitted.0.1) refl refl (h.has.holds.bytes a) (h.has.holds.bytes (a + 1)) ready.admitted.1.0 ready.admitted.1.1);
-          at = six_on v.core.place (load_size 16 a) (load_size 17 (a + 1)) 1 1 _ _ h.at ready.next;
         },
       ))
 

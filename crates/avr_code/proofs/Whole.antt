@@ -32,6 +32,8 @@ use Rattle.avr_code.proofs.Bits as bits
 use Rattle.avr_code.proofs.Control as control
 use Rattle.avr_code.proofs.Moves.{IsFull, set_full, moved_full, move_full}
 use Rattle.avr_code.proofs.Moves as moves
+use Rattle.avr_code.proofs.Numbers.{less_full, equal_full}
+use Rattle.avr_code.proofs.Numbers as numbers
 use Rattle.avr_code.proofs.Polling as polling
 use Rattle.avr_code.proofs.Primitives as law
 use Rattle.avr_code.proofs.Products as products
@@ -140,8 +142,8 @@ worded board (Word op) h e = word_words board op h
 worded board (Call l) h e = lit< tt
 worded board Return h e = lit< tt
 worded board (CyclePoll l) h e = lit< tt
-worded board (Compare (compares.Less a b)) h e = some_words (code_of board (Compare (compares.Less a b)) []) tt
-worded board (Compare (compares.Equal a b)) h e = some_words (code_of board (Compare (compares.Equal a b)) []) tt
+worded board (Compare (compares.Less a b)) h e = some_words (code_of board (Compare (compares.Less a b)) []) (less_full a b)
+worded board (Compare (compares.Equal a b)) h e = some_words (code_of board (Compare (compares.Equal a b)) []) (equal_full a b)
 worded board (Compare (compares.Below a n)) h e = some_words (code_of board (Compare (compares.Below a n)) []) tt
 worded board (Start n) h e = some_words (code_of board (Start n) []) tt
 worded board (AdcPoll l) h e = absurd h
@@ -199,7 +201,7 @@ module _ (board : Board) (lay : Layout) (m : AvrState) (s : Bytes) (st : StandsA
   word_goes (words.Increment to) ready low = law.increment board lay m s to ready st
   word_goes (words.Decrement to) ready low = law.decrement board lay m s to ready st
   word_goes (words.Add to a (source.Cells b)) ready low = law.add_cells board lay m s to a b ready st
-  word_goes (words.Add to a (source.Number low high)) ready below = law.add_number board lay m s to a low high ready st
+  word_goes (words.Add to a (source.Number low high)) ready below = numbers.add_number board lay m s st to a low high ready
   word_goes (words.Subtract to (source.Cells a) (source.Cells b)) ready low = law.subtract_cells_cells board lay m s to a b ready st
   word_goes (words.Subtract to (source.Cells a) (source.Number low high)) ready below = law.subtract_cells_number board lay m s to a low high ready st
   word_goes (words.Subtract to (source.Number low high) (source.Cells b)) ready below = law.subtract_number_cells board lay m s to low high b ready st
@@ -229,9 +231,9 @@ module _ (board : Board) (lay : Layout) (m : AvrState) (s : Bytes) (st : StandsA
   plainly Return ready q low = control.return board lay m s ready st
   plainly (CyclePoll l) ready q low = absurd (cc q)
   plainly (Compare (compares.Less a (source.Cells b))) ready q low = law.less_cells board lay m s a b ready st
-  plainly (Compare (compares.Less a (source.Number low high))) ready q inside = law.less_number board lay m s a low high ready st
+  plainly (Compare (compares.Less a (source.Number low high))) ready q inside = numbers.less_number board lay m s st a low high ready
   plainly (Compare (compares.Equal a (source.Cells b))) ready q low = law.equal_cells board lay m s a b ready st
-  plainly (Compare (compares.Equal a (source.Number low high))) ready q inside = law.equal_number board lay m s a low high ready st
+  plainly (Compare (compares.Equal a (source.Number low high))) ready q inside = numbers.equal_number board lay m s st a low high ready
   plainly (Compare (compares.Below a n)) ready q low = law.below board lay m s a n ready st
   plainly (Start n) ready q low = starts.start board lay m s n ready st
   plainly (AdcPoll l) ready q low = absurd ready.admitted

@@ -204,26 +204,44 @@ negate_code to sign =
     Loads 18 sign ∷ Loads 16 to ∷ Loads 17 (to + 1) ∷ Plain (insn.Sbrs 18 7) ∷ Plain (insn.Rjmp 4) ∷ Plain (insn.Com 16) ∷ Plain (insn.Com 17)
     ∷ Plain (insn.Adc 16 1) ∷ Plain (insn.Adc 17 1) ∷ word_stored to
 
+-- A word is added to R16 and R17; the high byte 0 of a number is that of R1.
+abbrev pub added : WordSource → List Piece
+added (source.Cells b) = word_loaded 18 (source.Cells b) ++ (Plain (insn.Add 16 18) ∷ Plain (insn.Adc 17 19) ∷ [])
+added (source.Number low high) =
+    if high == 0 then Plain (insn.Ldi 18 low) ∷ Plain (insn.Add 16 18) ∷ Plain (insn.Adc 17 1) ∷ []
+    else Plain (insn.Ldi 18 low) ∷ Plain (insn.Ldi 19 high) ∷ Plain (insn.Add 16 18) ∷ Plain (insn.Adc 17 19) ∷ []
+
 abbrev pub word_code : WordOp → List Piece
 word_code (words.Move to from) = move_code to from
 word_code (words.Increment to) =
     Loads 16 to ∷ Loads 17 (to + 1) ∷ Plain (insn.Bset 0) ∷ Plain (insn.Adc 16 1) ∷ Plain (insn.Adc 17 1) ∷ word_stored to
 word_code (words.Decrement to) =
     Loads 16 to ∷ Loads 17 (to + 1) ∷ Plain (insn.Bset 0) ∷ Plain (insn.Sbc 16 1) ∷ Plain (insn.Sbc 17 1) ∷ word_stored to
-word_code (words.Add to a b) =
-    word_loaded 16 (source.Cells a) ++ (word_loaded 18 b ++ (Plain (insn.Add 16 18) ∷ Plain (insn.Adc 17 19) ∷ word_stored to))
+word_code (words.Add to a b) = word_loaded 16 (source.Cells a) ++ (added b ++ word_stored to)
 word_code (words.Subtract to a b) =
     word_loaded 16 a ++ (word_loaded 18 b ++ (Plain (insn.Sub 16 18) ∷ Plain (insn.Sbc 17 19) ∷ word_stored to))
 word_code (words.NegateIf to sign) = negate_code to sign
 word_code words.MultiplyStep = multiply_code
 word_code words.DivideStep = divide_code
 
+-- R16 and R17 are compared with a word; of a number the low byte stands in the instruction, and the high byte 0 is that of R1
+abbrev pub with_word : WordSource → List Piece
+with_word (source.Cells b) = word_loaded 18 (source.Cells b) ++ (Plain (insn.Cp 16 18) ∷ Plain (insn.Cpc 17 19) ∷ [])
+with_word (source.Number low high) =
+    if high == 0 then Plain (insn.Cpi 16 low) ∷ Plain (insn.Cpc 17 1) ∷ []
+    else Plain (insn.Ldi 18 high) ∷ Plain (insn.Cpi 16 low) ∷ Plain (insn.Cpc 17 18) ∷ []
+
 abbrev pub compared : ℕ → WordSource → List Piece
-compared a b = word_loaded 16 (source.Cells a) ++ (word_loaded 18 b ++ (Plain (insn.Cp 16 18) ∷ Plain (insn.Cpc 17 19) ∷ []))
+compared a b = word_loaded 16 (source.Cells a) ++ with_word b
+
+-- a word is below 0 where its high byte is, and it is 0 where no bit of its bytes is 1
+abbrev pub is_nothing : WordSource → Bool
+is_nothing (source.Cells b) = false
+is_nothing (source.Number low high) = low == 0 && high == 0
 
 abbrev pub compare_code : CompareOp → List Piece
-compare_code (compares.Less a b) = compared a b
-compare_code (compares.Equal a b) = compared a b
+compare_code (compares.Less a b) = if is_nothing b then Loads 17 (a + 1) ∷ Plain (insn.Cp 17 1) ∷ [] else compared a b
+compare_code (compares.Equal a b) = if is_nothing b then Loads 16 a ∷ Loads 17 (a + 1) ∷ Plain (insn.Or 16 17) ∷ [] else compared a b
 compare_code (compares.Below a n) =
     word_loaded 16 (source.Cells a) ++ (Plain (insn.Cpi 16 n) ∷ Plain (insn.Cpc 17 1) ∷ [])
 
