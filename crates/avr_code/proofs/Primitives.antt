@@ -1,17 +1,15 @@
 -- Each primitive that is admitted leads to what the byte machine comes to.
 use Rattle.std.proofs.Common.{◌≡◌, ℕ, suc, ◌+◌, ◌-◌, ◌*◌, ◌%◌, ◌<◌, ◌≤◌, inl, inr, Bool, true, false, List, [], ◌∷◌, Option, Some, None, refl, sym, ap, ap₂, ◌∙◌, subst, arith, lit<, lit≤}
 use Rattle.std.proofs.lemmas.Bool.{lt-ltb, le-ltb, true≢false}
-use Rattle.std.proofs.lemmas.Nat.{xor_of_8}
-use Rattle.std.specs.Prelude.{bit_xor, ◌==◌, ◌&&◌, ◌||◌, not, nat_le, nat_lt, if◌then◌else◌, slice_index}
+use Rattle.std.specs.Prelude.{◌==◌, ◌&&◌, ◌||◌, not, nat_le, nat_lt, if◌then◌else◌, slice_index}
 use Rattle.chip_tables.specs.Bits.{as_bit}
 use Rattle.chip_tables.specs.Outside.{no_reading}
 use Rattle.runs.specs.Chip.{steps_over}
 use Rattle.byte_code.specs.declared.prim.BytePrim.{BytePrim}
-use Rattle.byte_code.specs.declared.prim.BytePrim.TheVariants.{Label, Jump, JumpWhere, Byte, Word, Compare}
+use Rattle.byte_code.specs.declared.prim.BytePrim.TheVariants.{Label, Jump, JumpWhere, Word, Compare}
 use Rattle.byte_code.specs.declared.prim.Test.TheVariants as test
 use Rattle.byte_code.specs.declared.prim.BitSource.{BitSource}
 use Rattle.byte_code.specs.declared.prim.BitSource.TheVariants as bit
-use Rattle.byte_code.specs.declared.prim.ByteOp.TheVariants as bytes
 use Rattle.byte_code.specs.declared.prim.WordOp.TheVariants as words
 use Rattle.byte_code.specs.declared.prim.WordSource.TheVariants as source
 use Rattle.byte_code.specs.declared.prim.CompareOp.TheVariants as compares
@@ -733,19 +731,5 @@ module _ (board : Board) (lay : Layout) (m : AvrState) (s : Bytes) where
               ready.admitted.0.1)
               ∙ below_words (cell s.store a) (cell s.store (a + 1)) n (v.work 1) (h.has.started ready.begins).zero (h.has.holds.bytes a) ready.admitted.1);
           at = four_on v.core.place (load_size 16 a) (load_size 17 (a + 1)) 1 1 _ _ h.at ready.next;
-        },
-      ))
-
-  pub exclusive_or : (to a b : ℕ) → Ready (Byte (bytes.Xor to a b)) → StandsAt board lay.places m s → Goes (Byte (bytes.Xor to a b))
-  exclusive_or to a b ready st = coded (Byte (bytes.Xor to a b)) (Loads 16 a) (Loads 17 b ∷ Plain (insn.Eor 16 17) ∷ Stores to 16 ∷ []) ready refl refl refl
-      ((lit< tt, ready.admitted.1), ((lit< tt, ready.admitted.2), ((lit< tt, lit< tt), ((lit< tt, ready.admitted.0), tt)))) st
-      (λ v h. (
-        le_more _,
-        record {
-          has = has_cell board lay.places v _ s (alike v _ refl refl refl (λ port. refl) refl refl refl refl) h.has to (bit_xor (v.cells a) (v.cells b))
-              (bit_xor (cell s.store a) (cell s.store b)) ready.admitted.0 refl
-              (ap₂ bit_xor (h.has.holds.cells a ready.admitted.1) (h.has.holds.cells b ready.admitted.2))
-              (xor_of_8 (cell s.store a) (cell s.store b) (h.has.holds.bytes a) (h.has.holds.bytes b));
-          at = four_on v.core.place (load_size 16 a) (load_size 17 b) 1 (store_size to 16) _ _ h.at ready.next;
         },
       ))

@@ -185,7 +185,9 @@ move_code to (source.Cells from) =
 abbrev pub byte_code : ByteOp → List Piece
 byte_code (bytes.Put to x) = byte_set to x []
 byte_code (bytes.Copy to from) = byte_moved to from []
-byte_code (bytes.Xor to a b) = Loads 16 a ∷ Loads 17 b ∷ Plain (insn.Eor 16 17) ∷ Stores to 16 ∷ []
+byte_code (bytes.Xor to a b) =
+    if nat_lt to IO_FIRST && (nat_lt b IO_FIRST && not (b == to)) then Loads to a ∷ Plain (insn.Eor to b) ∷ []
+    else Loads 16 a ∷ Loads 17 b ∷ Plain (insn.Eor 16 17) ∷ Stores to 16 ∷ []
 
 -- the product takes R24 and R25 by the lowest bits of R22 and R23, and the quotient the next bit
 abbrev pub multiply_code : List Piece
@@ -198,9 +200,12 @@ divide_code =
     Plain (insn.Add 24 24) ∷ Plain (insn.Adc 25 25) ∷ Plain (insn.Adc 30 30) ∷ Plain (insn.Adc 31 31) ∷ Plain (insn.Cp 30 22) ∷ Plain (insn.Cpc 31 23)
     ∷ Plain (insn.Brbs 0 3) ∷ Plain (insn.Sub 30 22) ∷ Plain (insn.Sbc 31 23) ∷ Plain (insn.Inc 24) ∷ []
 
--- the word's complement and 1 more, where the sign's bit 7 is 1
+-- the word's complement and 1 more, where the sign's bit 7 is 1: in their place, if both are in registers
 abbrev pub negate_code : ℕ → ℕ → List Piece
 negate_code to sign =
+    if nat_lt to IO_FIRST && nat_lt sign IO_FIRST then
+    Plain (insn.Sbrs sign 7) ∷ Plain (insn.Rjmp 4) ∷ Plain (insn.Com to) ∷ Plain (insn.Com (to + 1)) ∷ Plain (insn.Adc to 1) ∷ Plain (insn.Adc (to + 1) 1) ∷
+    [] else
     Loads 18 sign ∷ Loads 16 to ∷ Loads 17 (to + 1) ∷ Plain (insn.Sbrs 18 7) ∷ Plain (insn.Rjmp 4) ∷ Plain (insn.Com 16) ∷ Plain (insn.Com 17)
     ∷ Plain (insn.Adc 16 1) ∷ Plain (insn.Adc 17 1) ∷ word_stored to
 
