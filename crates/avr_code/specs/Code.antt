@@ -230,14 +230,14 @@ word_code words.MultiplyStep = multiply_code
 word_code words.DivideStep = divide_code
 
 -- R16 and R17 are compared with a word; of a number the low byte stands in the instruction, and the high byte 0 is that of R1
-abbrev pub with_word : WordSource → List Piece
-with_word (source.Cells b) = word_loaded 18 (source.Cells b) ++ (Plain (insn.Cp 16 18) ∷ Plain (insn.Cpc 17 19) ∷ [])
-with_word (source.Number low high) =
+abbrev pub against : WordSource → List Piece
+against (source.Cells b) = word_loaded 18 (source.Cells b) ++ (Plain (insn.Cp 16 18) ∷ Plain (insn.Cpc 17 19) ∷ [])
+against (source.Number low high) =
     if high == 0 then Plain (insn.Cpi 16 low) ∷ Plain (insn.Cpc 17 1) ∷ []
     else Plain (insn.Ldi 18 high) ∷ Plain (insn.Cpi 16 low) ∷ Plain (insn.Cpc 17 18) ∷ []
 
 abbrev pub compared : ℕ → WordSource → List Piece
-compared a b = word_loaded 16 (source.Cells a) ++ with_word b
+compared a b = word_loaded 16 (source.Cells a) ++ against b
 
 -- a word is below 0 where its high byte is, and it is 0 where no bit of its bytes is 1
 abbrev pub is_nothing : WordSource → Bool
@@ -254,11 +254,22 @@ compare_code (compares.Below a n) =
 abbrev pub poll_code : List Piece
 poll_code = Plain (insn.In 16 0x38) ∷ Plain (insn.Sbrs 16 4) ∷ Plain (insn.Rjmp 4093) ∷ Plain (insn.Out 0x38 16) ∷ []
 
--- A becomes the value whose index is the low byte of R: each index is compared. An index is a byte, so that of a table the first 256 values have code.
-abbrev pub table_code : ℕ → List ℕ → List Piece
-table_code i [] = []
-table_code i (x ∷ xs) =
-    Plain (insn.Cpi 30 i) ∷ Plain (insn.Brbc 1 2) ∷ Plain (insn.Ldi 24 (x % 256)) ∷ Plain (insn.Ldi 25 (x / 256 % 256)) ∷ table_code (i + 1) xs
+-- A becomes the value whose index is the low byte of R. It has the first value, and goes from value to value as far as the index: behind the comparison with
+-- an index stand the bytes by which its value is another than the one before. An index is a byte, so that of a table the first 256 values have code.
+abbrev pub next_value : ℕ → ℕ → ℕ → List Piece → List Piece
+next_value i before x rest =
+    if x % 256 == before % 256 then
+    (if x / 256 % 256 == before / 256 % 256 then rest else Plain (insn.Cpi 30 i) ∷ Plain (insn.Brbs 0 1) ∷ Plain (insn.Ldi 25 (x / 256 % 256)) ∷ rest) else
+    (if x / 256 % 256 == before / 256 % 256 then Plain (insn.Cpi 30 i) ∷ Plain (insn.Brbs 0 1) ∷ Plain (insn.Ldi 24 (x % 256)) ∷ rest else
+    Plain (insn.Cpi 30 i) ∷ Plain (insn.Brbs 0 2) ∷ Plain (insn.Ldi 24 (x % 256)) ∷ Plain (insn.Ldi 25 (x / 256 % 256)) ∷ rest)
+
+abbrev pub values_from : ℕ → ℕ → List ℕ → List Piece
+values_from i before [] = []
+values_from i before (x ∷ xs) = next_value i before x (values_from (i + 1) x xs)
+
+abbrev pub table_code : List ℕ → List Piece
+table_code [] = []
+table_code (x ∷ xs) = Plain (insn.Ldi 24 (x % 256)) ∷ Plain (insn.Ldi 25 (x / 256 % 256)) ∷ values_from 1 x xs
 
 -- So many bytes of the SRAM become 0, from its first on: X goes over them, and its own bytes are kept in R18 and R19. The loop ends where X is behind the
 -- last of them.
@@ -300,7 +311,7 @@ code_of board (AdcPoll l) labels = []
 code_of board (Bit op) labels = bit_code op
 code_of board (Device op) labels = []
 code_of board (Eeprom op) labels = []
-code_of board (Table values l) labels = table_code 0 (take 256 values)
+code_of board (Table values l) labels = table_code (take 256 values)
 
 -- the words that stand in flash for an instruction, the first one and what may follow it
 abbrev pub words_by : ℕ → AvrInsn → List ℕ
