@@ -228,7 +228,8 @@ module _ (board : Board) (lay : Layout) (m : AvrState) (s : Bytes) where
   copy_byte to from ready st =
       let in' = ready.admitted.0 in
       let source = ready.admitted.1 in
-      listed (Byte (bytes.Copy to from)) (byte_moved to from []) (moved_full to from [] in' source) ready refl refl refl (moved_fits to from [] in' source tt) st
+      listed (Byte (bytes.Copy to from)) (byte_moved to from []) (moved_full to from [] in' source) ready refl refl refl
+      (moved_fits to from [] in' source tt) st
       (λ v h. good_more _ _ _ (moved_goes to from [] in' source (Ends' (Byte (bytes.Copy to from))) v (λ w k size wrote. (
         lit≤ tt,
         record {

@@ -264,7 +264,10 @@ module _ (board : Board) (lay : Layout) (m : AvrState) (s : Bytes) (st : StandsA
             (lit< tt, ready.admitted.1.0),
             (
               (lit< tt, ready.admitted.1.1),
-              ((lit≤ tt, lit< tt, ready.admitted.2.0), ((lit< tt, lit< tt), ((lit< tt, lit< tt), ((lit< tt, ready.admitted.0.0), ((lit< tt, ready.admitted.0.1), tt))))),
+              (
+                (lit≤ tt, lit< tt, ready.admitted.2.0),
+                ((lit< tt, lit< tt), ((lit< tt, lit< tt), ((lit< tt, ready.admitted.0.0), ((lit< tt, ready.admitted.0.1), tt)))),
+              ),
             ),
           ) st
           (λ next v h. (
