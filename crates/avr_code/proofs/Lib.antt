@@ -11,7 +11,7 @@ pub mod Primitives
 pub mod Moves
 pub mod Numbers
 pub mod Products
-pub mod Places
+pub mod OwnRegisters
 pub mod Bits
 pub mod Tables
 pub mod Clearing

@@ -1,5 +1,5 @@
 -- Bytes and words that are set and moved.
-use Rattle.std.proofs.Common.{◌≡◌, ◌≢◌, ◌⊎◌, inl, inr, ℕ, suc, ◌+◌, ◌<◌, Bool, true, false, List, [], ◌∷◌, refl, sym, ap, ap₂, ◌∙◌, subst, arith, eq-eqb, lit<, lit≤}
+use Rattle.std.proofs.Common.{◌≡◌, ◌≢◌, ◌⊎◌, inl, inr, ℕ, suc, ◌+◌, ◌<◌, ◌≤◌, Bool, true, false, List, [], ◌∷◌, refl, sym, ap, ap₂, ◌∙◌, subst, arith, eq-eqb, lit<, lit≤}
 use Rattle.std.proofs.lemmas.Bool.{and_parts, cases_eq, eqb-true, eqb-false, leb-true, ltb-true, le-leb, lt-leb, ne_eqb}
 use Rattle.std.specs.Prelude.{◌==◌, ◌&&◌, ◌||◌, nat_le, nat_lt, if◌then◌else◌, slice_index}
 use Rattle.chip_tables.specs.Outside.{no_reading}
@@ -60,12 +60,15 @@ good_more n E w g = subst (λ k. AllGood k E w) (same n) g
     same : (n : ℕ) → n ≡ n + 0
     same n = omega arith
 
+pub le_self : (n : ℕ) → n ≤ n
+le_self n = omega arith
+
 abbrev pub IsFull : List Piece → Type 0
 IsFull [] = ⊥
 IsFull (p ∷ ps) = Unit {0}
 
-both_on : (n k j r : ℕ) → n + k + j ≡ n + (k + j)
-both_on n k j r = omega arith
+both_on : (n k j : ℕ) → n + k + j ≡ n + (k + j)
+both_on n k j = omega arith
 
 both_size : (k j r : ℕ) → k + (j + r) ≡ k + j + r
 both_size k j r = omega arith
@@ -111,7 +114,7 @@ module _ (a x : ℕ) (rest : List Piece) (in' : IsCell a) where
           (go _ (1 + store_size a 16) (both_size 1 (store_size a 16) (size_in rest)) (record {
             kept = alike v _ refl refl refl (λ port. refl) refl refl refl refl;
             cells = refl;
-            at = both_on v.core.place 1 (store_size a 16) 0;
+            at = both_on v.core.place 1 (store_size a 16);
           })))
 
 module _ (to from : ℕ) (rest : List Piece) (in' : IsCell to) (source : IsCell from) where
@@ -154,10 +157,10 @@ module _ (to from : ℕ) (rest : List Piece) (in' : IsCell to) (source : IsCell 
           (go _ (load_size 16 from + store_size to 16) (both_size (load_size 16 from) (store_size to 16) (size_in rest)) (record {
             kept = alike v _ refl refl refl (λ port. refl) refl refl refl refl;
             cells = refl;
-            at = both_on v.core.place (load_size 16 from) (store_size to 16) 0;
+            at = both_on v.core.place (load_size 16 from) (store_size to 16);
           })))
 
-changed_other : (f : ℕ → ℕ) (a x b : ℕ) → b ≢ a → changed f a x b ≡ f b
+pub changed_other : (f : ℕ → ℕ) (a x b : ℕ) → b ≢ a → changed f a x b ≡ f b
 changed_other f a x b ne = ap (λ t. if t then x else f b) (ne_eqb b a ne)
 
 -- which of two cells is written first does not count

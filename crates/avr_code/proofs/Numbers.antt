@@ -1,5 +1,5 @@
 -- Words that are compared with a number, and to which a number is added.
-use Rattle.std.proofs.Common.{◌≡◌, ◌≢◌, ◌⊎◌, inl, inr, ℕ, suc, ◌+◌, ◌*◌, ◌%◌, ◌<◌, ◌≤◌, Bool, true, false, List, [], ◌∷◌, Some, refl, sym, ap, ap₂, ◌∙◌, arith, eq-eqb, lit<, lit≤}
+use Rattle.std.proofs.Common.{◌≡◌, ◌≢◌, ◌⊎◌, inl, inr, ℕ, suc, ◌+◌, ◌*◌, ◌%◌, ◌<◌, Bool, true, false, List, [], ◌∷◌, Some, refl, sym, ap, ap₂, ◌∙◌, arith, eq-eqb, lit<, lit≤}
 use Rattle.std.proofs.lemmas.Bool.{and_parts, cases_eq, eqb-true, ne_eqb, lt-ltb, le-ltb, ltb-true, ltb-false}
 use Rattle.std.proofs.lemmas.Nat.{le_or_l, le_or_r}
 use Rattle.std.specs.Prelude.{◌==◌, ◌&&◌, ◌++◌, nat_lt, if◌then◌else◌, bit_or}
@@ -18,7 +18,7 @@ use Rattle.avr_mach.specs.declared.state.AvrState.{AvrState}
 use Rattle.target_core.specs.Law.{Layout}
 use Rattle.avr_code.specs.Code.{Board, Piece, Plain, Loads, compared, is_nothing, word_stored}
 use Rattle.avr_code.specs.Stands.{IsCell, StandsAt}
-use Rattle.avr_code.proofs.Moves.{IsFull, chosen}
+use Rattle.avr_code.proofs.Moves.{IsFull, chosen, le_self}
 use Rattle.avr_code.proofs.Primitives.{Ready, Goes, less_flag, equal_flag, sign_of, load_size, store_size}
 use Rattle.avr_code.proofs.Standing.{alike, has_same, has_word}
 use Rattle.avr_code.proofs.Sums.{added_low, added_high}
@@ -90,9 +90,6 @@ seven_on n a b x y p q e f = omega (arith, e, f)
 
 eight_on : (n a b x y p q : ℕ) → n ≡ p → q ≡ p + (a + (b + (1 + (1 + (1 + (1 + (x + (y + 0)))))))) → n + a + b + 1 + 1 + 1 + 1 + x + y ≡ q
 eight_on n a b x y p q e f = omega (arith, e, f)
-
-le_self : (n : ℕ) → n ≤ n
-le_self n = omega arith
 
 -- the pieces that compare with a number
 abbrev short_form : ℕ → ℕ → List Piece

@@ -71,18 +71,18 @@ negated_cost a b c x y = omega arith
 left_cost : (a b c x y : ℕ) → a + (b + (c + (1 + (2 + (x + (y + 0)))))) ≤ a + (b + (c + (1 + (1 + (1 + (1 + (1 + (1 + (x + (y + 0))))))))))
 left_cost a b c x y = omega arith
 
-abbrev pub apart : ℕ → ℕ → List Piece
-apart to sign =
+abbrev pub negated_apart : ℕ → ℕ → List Piece
+negated_apart to sign =
     Loads 18 sign ∷ Loads 16 to ∷ Loads 17 (to + 1) ∷ Plain (insn.Sbrs 18 7) ∷ Plain (insn.Rjmp 4) ∷ Plain (insn.Com 16) ∷ Plain (insn.Com 17)
     ∷ Plain (insn.Adc 16 1) ∷ Plain (insn.Adc 17 1) ∷ Stores to 16 ∷ Stores (to + 1) 17 ∷ []
 
-abbrev pub in_place : ℕ → ℕ → List Piece
-in_place to sign =
+abbrev pub negated_in_place : ℕ → ℕ → List Piece
+negated_in_place to sign =
     Plain (insn.Sbrs sign 7) ∷ Plain (insn.Rjmp 4) ∷ Plain (insn.Com to) ∷ Plain (insn.Com (to + 1)) ∷ Plain (insn.Adc to 1) ∷ Plain (insn.Adc (to + 1) 1) ∷
     []
 
 abbrev pub negated_by : ℕ → ℕ → Bool → List Piece
-negated_by to sign b = if b then in_place to sign else apart to sign
+negated_by to sign b = if b then negated_in_place to sign else negated_apart to sign
 
 either : (P : ℕ → Type 0) (k n : ℕ) → P k → ((n == k) ≡ false → P n) → P n
 either P k n at off = by (cases_eq n k)
@@ -341,7 +341,7 @@ module _ (board : Board) (lay : Layout) (m : AvrState) (s : Bytes) where
   -- where it is worked out in R16 and R17
   pub negate_apart : (to sign : ℕ) → (nat_lt to 32 && nat_lt sign 32) ≡ false → Ready (Word (words.NegateIf to sign)) → StandsAt board lay.places m s →
       Goes (Word (words.NegateIf to sign))
-  negate_apart to sign none ready st = chosen board lay m s (Word (words.NegateIf to sign)) (apart to sign) tt ready (ap (negated_by to sign) none)
+  negate_apart to sign none ready st = chosen board lay m s (Word (words.NegateIf to sign)) (negated_apart to sign) tt ready (ap (negated_by to sign) none)
       (ap (negated_by to sign) none) refl refl (
         (lit< tt, ready.admitted.1),
         (

@@ -34,8 +34,8 @@ use Rattle.avr_code.proofs.Moves.{IsFull, set_full, moved_full, move_full}
 use Rattle.avr_code.proofs.Moves as moves
 use Rattle.avr_code.proofs.Numbers.{less_full, equal_full}
 use Rattle.avr_code.proofs.Numbers as numbers
-use Rattle.avr_code.proofs.Places.{negate_full, xor_full}
-use Rattle.avr_code.proofs.Places as places
+use Rattle.avr_code.proofs.OwnRegisters.{negate_full, xor_full}
+use Rattle.avr_code.proofs.OwnRegisters as own
 use Rattle.avr_code.proofs.Polling as polling
 use Rattle.avr_code.proofs.Primitives as law
 use Rattle.avr_code.proofs.Products as products
@@ -209,7 +209,7 @@ module _ (board : Board) (lay : Layout) (m : AvrState) (s : Bytes) (st : StandsA
   word_goes (words.Subtract to (source.Number low high) (source.Cells b)) ready below = law.subtract_number_cells board lay m s to low high b ready st
   word_goes (words.Subtract to (source.Number low high) (source.Number low2 high2)) ready below =
       law.subtract_number_number board lay m s to low high low2 high2 ready st
-  word_goes (words.NegateIf to sign) ready low = places.negate_if board lay m s to sign ready low st
+  word_goes (words.NegateIf to sign) ready low = own.negate_if board lay m s to sign ready low st
   word_goes words.MultiplyStep ready low = products.multiply_step board lay m s ready st
   word_goes words.DivideStep ready low = products.divide_step board lay m s ready low st
 
@@ -227,7 +227,7 @@ module _ (board : Board) (lay : Layout) (m : AvrState) (s : Bytes) (st : StandsA
   plainly (JumpWhere test.NoneWaits l) ready q low = absurd ready.admitted
   plainly (Byte (bytes.Put to x)) ready q low = moves.put_byte board lay m s to x ready st
   plainly (Byte (bytes.Copy to from)) ready q low = moves.copy_byte board lay m s to from ready st
-  plainly (Byte (bytes.Xor to a b)) ready q low = places.exclusive_or board lay m s to a b ready st
+  plainly (Byte (bytes.Xor to a b)) ready q low = own.exclusive_or board lay m s to a b ready st
   plainly (Word op) ready q low = word_goes op ready low
   plainly (Call l) ready q low = control.call board lay m s l ready st
   plainly Return ready q low = control.return board lay m s ready st

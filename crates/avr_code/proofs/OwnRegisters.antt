@@ -1,5 +1,5 @@
 -- Bytes and words that are worked out in their own registers.
-use Rattle.std.proofs.Common.{◌≡◌, ◌≢◌, inl, inr, ℕ, suc, ◌+◌, ◌-◌, ◌%◌, ◌<◌, ◌≤◌, Bool, true, false, List, [], ◌∷◌, None, refl, sym, ap, ap₂, ◌∙◌, subst, arith, eq-eqb, lit<, lit≤}
+use Rattle.std.proofs.Common.{◌≡◌, inl, inr, ℕ, suc, ◌+◌, ◌-◌, ◌%◌, ◌<◌, Bool, true, false, List, [], ◌∷◌, None, refl, sym, ap, ap₂, ◌∙◌, subst, arith, eq-eqb, lit<, lit≤}
 use Rattle.std.proofs.lemmas.Bool.{and_parts, eqb-false, ltb-true, ne_eqb}
 use Rattle.std.proofs.lemmas.Nat.{xor_of_8}
 use Rattle.std.specs.Prelude.{◌==◌, ◌&&◌, not, nat_lt, if◌then◌else◌, slice_index, bit_xor}
@@ -18,10 +18,10 @@ use Rattle.target_core.specs.Law.{Layout}
 use Rattle.avr_code.specs.Code.{Board, Piece, Plain, Loads, Stores}
 use Rattle.avr_code.specs.Stands.{is_work, IsCell, StandsAt}
 use Rattle.avr_code.proofs.Effects.{keeping}
-use Rattle.avr_code.proofs.Moves.{IsFull, chosen, cell_free, put_cell, see_cell}
+use Rattle.avr_code.proofs.Moves.{IsFull, changed_other, chosen, le_self, cell_free, put_cell, see_cell}
 use Rattle.avr_code.proofs.Paths.{paths, AllGood}
 use Rattle.avr_code.proofs.Primitives.{Ready, Ends, Goes, good_bump, is_false, load_size, store_size}
-use Rattle.avr_code.proofs.Products.{negated_by, in_place, negate_apart, negated_low, negated_high}
+use Rattle.avr_code.proofs.Products.{negated_by, negated_in_place, negate_apart, negated_low, negated_high}
 use Rattle.avr_code.proofs.Standing.{Has, Alike, ViewStands, alike, has_cell, has_cell_by, has_kept, has_word_by}
 use Rattle.avr_code.proofs.View.{View, see, put, changed, moved}
 
@@ -90,9 +90,6 @@ at_next f a x = ap (λ t. if t then x else f (a + 1)) (ne_eqb (a + 1) a (λ e. o
 before_next : (f : ℕ → ℕ) (a x : ℕ) → changed f (a + 1) x a ≡ f a
 before_next f a x = ap (λ t. if t then x else f a) (ne_eqb a (a + 1) (λ e. omega (arith, e)))
 
-at_other : (f : ℕ → ℕ) (a x b : ℕ) → b ≢ a → changed f a x b ≡ f b
-at_other f a x b ne = ap (λ t. if t then x else f b) (ne_eqb b a ne)
-
 -- of two writes of a byte the later one stays
 again : (f : ℕ → ℕ) (a x y b : ℕ) → changed (changed f a x) a y b ≡ changed f a y b
 again f a x y b = by (b == a)
@@ -123,9 +120,6 @@ two_on n a p q e f = omega (arith, e, f)
 four_on : (n a b c d p q : ℕ) → n ≡ p → q ≡ p + (a + (b + (c + (d + 0)))) → n + a + b + c + d ≡ q
 four_on n a b c d p q e f = omega (arith, e, f)
 
-le_self : (n : ℕ) → n ≤ n
-le_self n = omega arith
-
 pub negate_full : (to sign : ℕ) → IsFull (negated_by to sign (nat_lt to 32 && nat_lt sign 32))
 negate_full to sign = by (nat_lt to 32 && nat_lt sign 32)
   where
@@ -133,14 +127,14 @@ negate_full to sign = by (nat_lt to 32 && nat_lt sign 32)
     by true = tt
     by false = tt
 
-abbrev own : ℕ → ℕ → ℕ → List Piece
-own to a b = Loads to a ∷ Plain (insn.Eor to b) ∷ []
+abbrev xor_in_place : ℕ → ℕ → ℕ → List Piece
+xor_in_place to a b = Loads to a ∷ Plain (insn.Eor to b) ∷ []
 
-abbrev other : ℕ → ℕ → ℕ → List Piece
-other to a b = Loads 16 a ∷ Loads 17 b ∷ Plain (insn.Eor 16 17) ∷ Stores to 16 ∷ []
+abbrev xor_apart : ℕ → ℕ → ℕ → List Piece
+xor_apart to a b = Loads 16 a ∷ Loads 17 b ∷ Plain (insn.Eor 16 17) ∷ Stores to 16 ∷ []
 
 abbrev xor_by : ℕ → ℕ → ℕ → Bool → List Piece
-xor_by to a b t = if t then own to a b else other to a b
+xor_by to a b t = if t then xor_in_place to a b else xor_apart to a b
 
 pub xor_full : (to a b : ℕ) → IsFull (xor_by to a b (nat_lt to 32 && (nat_lt b 32 && not (b == to))))
 xor_full to a b = by (nat_lt to 32 && (nat_lt b 32 && not (b == to)))
@@ -159,7 +153,7 @@ module _ (board : Board) (lay : Layout) (m : AvrState) (s : Bytes) where
   negate_here : (to sign : ℕ) → (nat_lt to 32 && nat_lt sign 32) ≡ true → Ready' (Word (words.NegateIf to sign)) →
       slice_index lay.places (suc s.place) < 8192 → StandsAt board lay.places m s → Goes' (Word (words.NegateIf to sign))
   negate_here to sign both ready low st =
-      chosen board lay m s p (in_place to sign) tt ready (ap (negated_by to sign) both) (ap (negated_by to sign) both) refl refl
+      chosen board lay m s p (negated_in_place to sign) tt ready (ap (negated_by to sign) both) (ap (negated_by to sign) both) refl refl
       ((near_sign, lit< tt), (lit< tt, (near, (near_next, ((near, lit< tt), ((near_next, lit< tt), tt)))))) st
       (λ next v h. (
         λ t.
@@ -281,7 +275,7 @@ module _ (board : Board) (lay : Layout) (m : AvrState) (s : Bytes) where
           let parts = and_parts (nat_lt to 32) (nat_lt b 32 && not (b == to)) e in
           let rest = and_parts (nat_lt b 32) (not (b == to)) parts.1 in
           let near = ltb-true to 32 parts.0 in
-          chosen board lay m s p (own to a b) tt ready (ap (xor_by to a b) e) (ap (xor_by to a b) e) refl refl
+          chosen board lay m s p (xor_in_place to a b) tt ready (ap (xor_by to a b) e) (ap (xor_by to a b) e) refl refl
           ((near, ready.admitted.1), ((near, ltb-true b 32 rest.0), tt)) st
           (λ next v h.
           let g = changed v.cells to (v.cells a) in
@@ -292,11 +286,11 @@ module _ (board : Board) (lay : Layout) (m : AvrState) (s : Bytes) where
               has = has_cell_by board lay.places v _ s (alike v _ refl refl refl (λ port. refl) refl refl refl refl) h.has to (bit_xor (g to) (g b))
                   (bit_xor (cell s.store a) (cell s.store b)) to_cell (again v.cells to (v.cells a) (bit_xor (g to) (g b)))
                   (ap₂ bit_xor (at_same v.cells to (v.cells a) ∙ h.has.holds.cells a ready.admitted.1)
-                  (at_other v.cells to (v.cells a) b (eqb-false b to (is_false _ rest.1)) ∙ h.has.holds.cells b ready.admitted.2)) small;
+                  (changed_other v.cells to (v.cells a) b (eqb-false b to (is_false _ rest.1)) ∙ h.has.holds.cells b ready.admitted.2)) small;
               at = two_on v.core.place (load_size to a) _ _ h.at next;
             },
           )))
-      by false e = chosen board lay m s p (other to a b) tt ready (ap (xor_by to a b) e) (ap (xor_by to a b) e) refl refl
+      by false e = chosen board lay m s p (xor_apart to a b) tt ready (ap (xor_by to a b) e) (ap (xor_by to a b) e) refl refl
           ((lit< tt, ready.admitted.1), ((lit< tt, ready.admitted.2), ((lit< tt, lit< tt), ((lit< tt, to_cell), tt)))) st
           (λ next v h. (
             le_self _,
