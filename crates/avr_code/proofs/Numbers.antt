@@ -1,4 +1,4 @@
--- Words that are compared with a number, and to which a number is added.
+-- Words that are compared, and to which a number is added.
 use Rattle.std.proofs.Common.{◌≡◌, ◌≢◌, ◌⊎◌, inl, inr, ℕ, suc, ◌+◌, ◌*◌, ◌%◌, ◌<◌, Bool, true, false, List, [], ◌∷◌, Some, refl, sym, ap, ap₂, ◌∙◌, arith, eq-eqb, lit<, lit≤}
 use Rattle.std.proofs.lemmas.Bool.{and_parts, cases_eq, eqb-true, ne_eqb, lt-ltb, le-ltb, ltb-true, ltb-false}
 use Rattle.std.proofs.lemmas.Nat.{le_or_l, le_or_r}
@@ -18,10 +18,11 @@ use Rattle.avr_mach.specs.declared.state.AvrState.{AvrState}
 use Rattle.target_core.specs.Law.{Layout}
 use Rattle.avr_code.specs.Code.{Board, Piece, Plain, Loads, compared, is_nothing, word_stored}
 use Rattle.avr_code.specs.Stands.{IsCell, StandsAt}
-use Rattle.avr_code.proofs.Moves.{IsFull, chosen, le_self}
+use Rattle.avr_code.proofs.Moves.{IsFull, chosen, le_self, cell_free, see_cell}
 use Rattle.avr_code.proofs.Primitives.{Ready, Goes, less_flag, equal_flag, sign_of, load_size, store_size}
 use Rattle.avr_code.proofs.Standing.{alike, has_same, has_word}
 use Rattle.avr_code.proofs.Sums.{added_low, added_high}
+use Rattle.avr_code.proofs.View.{View, changed}
 
 below_zero : (a b : ℕ) → a < 256 → b < 256 → nat_lt (lifted (0 + b * 256)) (lifted 0) ≡ nat_lt (lifted (a + b * 256)) (lifted 0)
 below_zero a b ha hb = by (nat_lt (lifted (0 + b * 256)) (lifted 0)) refl
@@ -102,12 +103,140 @@ abbrev any_form : ℕ → ℕ → ℕ → Bool → List Piece
 any_form a low high t = Loads 16 a ∷ Loads 17 (a + 1) ∷ (if t then Plain (insn.Cpi 16 low) ∷ Plain (insn.Cpc 17 1) ∷ []
     else Plain (insn.Ldi 18 high) ∷ Plain (insn.Cpi 16 low) ∷ Plain (insn.Cpc 17 18) ∷ [])
 
+abbrev register_form : ℕ → ℕ → List Piece
+register_form a b = Loads 16 a ∷ Loads 17 (a + 1) ∷ Plain (insn.Cp 16 b) ∷ Plain (insn.Cpc 17 (b + 1)) ∷ []
+
+abbrev loaded_form : ℕ → ℕ → List Piece
+loaded_form a b = Loads 16 a ∷ Loads 17 (a + 1) ∷ Loads 18 b ∷ Loads 19 (b + 1) ∷ Plain (insn.Cp 16 18) ∷ Plain (insn.Cpc 17 19) ∷ []
+
+abbrev cells_form : ℕ → ℕ → Bool → List Piece
+cells_form a b t = Loads 16 a ∷ Loads 17 (a + 1) ∷ (if t then Plain (insn.Cp 16 b) ∷ Plain (insn.Cpc 17 (b + 1)) ∷ []
+    else Loads 18 b ∷ Loads 19 (b + 1) ∷ Plain (insn.Cp 16 18) ∷ Plain (insn.Cpc 17 19) ∷ [])
+
+-- R16 and R17 have a word
+abbrev with_words : View → ℕ → View
+with_words v a = record v { work = changed (changed v.work 16 (v.cells a)) 17 (v.cells (a + 1)) }
+
+-- the register behind one that begins a word
+next_near : (b : ℕ) → b < 32 → IsCell (b + 1) → b + 1 < 32
+next_near b near (inl low) = low.0
+next_near b near (inr high) = let far = high.0 in omega (arith, far, near)
+
+six_on : (n a b c d p q : ℕ) → n ≡ p → q ≡ p + (a + (b + (c + (d + (1 + (1 + 0)))))) → n + a + b + c + d + 1 + 1 ≡ q
+six_on n a b c d p q e f = omega (arith, e, f)
+
 module _ (board : Board) (lay : Layout) (m : AvrState) (s : Bytes) (st : StandsAt board lay.places m s) where
   abbrev Ready' : BytePrim → Type 0
   Ready' p = Ready board lay m s p
 
   abbrev Goes' : BytePrim → Type 0
   Goes' p = Goes board lay m s p
+
+  pub less_cells : (a b : ℕ) → Ready' (Compare (compares.Less a (source.Cells b))) → Goes' (Compare (compares.Less a (source.Cells b)))
+  less_cells a b ready = by (nat_lt b 32) refl
+    where
+      p : BytePrim
+      p = Compare (compares.Less a (source.Cells b))
+
+      in1 : IsCell a
+      in1 = ready.admitted.0.0
+
+      in2 : IsCell (a + 1)
+      in2 = ready.admitted.0.1
+
+      other1 : IsCell b
+      other1 = ready.admitted.1.0
+
+      other2 : IsCell (b + 1)
+      other2 = ready.admitted.1.1
+
+      flag : Flag
+      flag = record { kind = kind.Less; value = nat_lt (lifted (word_at s.store a)) (lifted (word_at s.store b)) }
+
+      by : (t : Bool) → nat_lt b 32 ≡ t → Goes' p
+      by true e =
+          let is = ap (cells_form a b) e in
+          let near = ltb-true b 32 e in
+          chosen board lay m s p (register_form a b) tt ready is is refl refl
+          ((lit< tt, in1), ((lit< tt, in2), ((lit< tt, near), ((lit< tt, next_near b near other2), tt)))) st
+          (λ next v h. (
+            le_self _,
+            record {
+              has = has_same board lay.places v _ s (alike v _ refl refl refl (λ port. refl) refl refl refl refl) h.has (Some flag) (suc s.place) refl
+                  (less_flag (cell s.store a) (cell s.store (a + 1)) (cell s.store b) (cell s.store (b + 1)) _ _ _ _ (h.has.holds.cells a in1)
+                  (h.has.holds.cells (a + 1) in2) (see_cell (with_words v a) b (cell_free b other1) ∙ h.has.holds.cells b other1)
+                  (see_cell (with_words v a) (b + 1) (cell_free (b + 1) other2) ∙ h.has.holds.cells (b + 1) other2) (h.has.holds.bytes a)
+                  (h.has.holds.bytes (a + 1)) (h.has.holds.bytes b) (h.has.holds.bytes (b + 1)));
+              at = four_on v.core.place (load_size 16 a) (load_size 17 (a + 1)) 1 1 _ _ h.at next;
+            },
+          ))
+      by false e =
+          let is = ap (cells_form a b) e in
+          chosen board lay m s p (loaded_form a b) tt ready is is refl refl
+          ((lit< tt, in1), ((lit< tt, in2), ((lit< tt, other1), ((lit< tt, other2), ((lit< tt, lit< tt), ((lit< tt, lit< tt), tt)))))) st
+          (λ next v h. (
+            le_self _,
+            record {
+              has = has_same board lay.places v _ s (alike v _ refl refl refl (λ port. refl) refl refl refl refl) h.has (Some flag) (suc s.place) refl
+                  (less_flag (cell s.store a) (cell s.store (a + 1)) (cell s.store b) (cell s.store (b + 1)) _ _ _ _ (h.has.holds.cells a in1)
+                  (h.has.holds.cells (a + 1) in2) (h.has.holds.cells b other1) (h.has.holds.cells (b + 1) other2) (h.has.holds.bytes a)
+                  (h.has.holds.bytes (a + 1)) (h.has.holds.bytes b) (h.has.holds.bytes (b + 1)));
+              at = six_on v.core.place (load_size 16 a) (load_size 17 (a + 1)) (load_size 18 b) (load_size 19 (b + 1)) _ _ h.at next;
+            },
+          ))
+
+  pub equal_cells : (a b : ℕ) → Ready' (Compare (compares.Equal a (source.Cells b))) → Goes' (Compare (compares.Equal a (source.Cells b)))
+  equal_cells a b ready = by (nat_lt b 32) refl
+    where
+      p : BytePrim
+      p = Compare (compares.Equal a (source.Cells b))
+
+      in1 : IsCell a
+      in1 = ready.admitted.0.0
+
+      in2 : IsCell (a + 1)
+      in2 = ready.admitted.0.1
+
+      other1 : IsCell b
+      other1 = ready.admitted.1.0
+
+      other2 : IsCell (b + 1)
+      other2 = ready.admitted.1.1
+
+      flag : Flag
+      flag = record { kind = kind.Equal; value = word_at s.store a == word_at s.store b }
+
+      by : (t : Bool) → nat_lt b 32 ≡ t → Goes' p
+      by true e =
+          let is = ap (cells_form a b) e in
+          let near = ltb-true b 32 e in
+          chosen board lay m s p (register_form a b) tt ready is is refl refl
+          ((lit< tt, in1), ((lit< tt, in2), ((lit< tt, near), ((lit< tt, next_near b near other2), tt)))) st
+          (λ next v h. (
+            le_self _,
+            record {
+              has = has_same board lay.places v _ s (alike v _ refl refl refl (λ port. refl) refl refl refl refl) h.has (Some flag) (suc s.place) refl
+                  (equal_flag (cell s.store a) (cell s.store (a + 1)) (cell s.store b) (cell s.store (b + 1)) _ _ _ _ (h.has.holds.cells a in1)
+                  (h.has.holds.cells (a + 1) in2) (see_cell (with_words v a) b (cell_free b other1) ∙ h.has.holds.cells b other1)
+                  (see_cell (with_words v a) (b + 1) (cell_free (b + 1) other2) ∙ h.has.holds.cells (b + 1) other2) (h.has.holds.bytes a)
+                  (h.has.holds.bytes (a + 1)) (h.has.holds.bytes b) (h.has.holds.bytes (b + 1)));
+              at = four_on v.core.place (load_size 16 a) (load_size 17 (a + 1)) 1 1 _ _ h.at next;
+            },
+          ))
+      by false e =
+          let is = ap (cells_form a b) e in
+          chosen board lay m s p (loaded_form a b) tt ready is is refl refl
+          ((lit< tt, in1), ((lit< tt, in2), ((lit< tt, other1), ((lit< tt, other2), ((lit< tt, lit< tt), ((lit< tt, lit< tt), tt)))))) st
+          (λ next v h. (
+            le_self _,
+            record {
+              has = has_same board lay.places v _ s (alike v _ refl refl refl (λ port. refl) refl refl refl refl) h.has (Some flag) (suc s.place) refl
+                  (equal_flag (cell s.store a) (cell s.store (a + 1)) (cell s.store b) (cell s.store (b + 1)) _ _ _ _ (h.has.holds.cells a in1)
+                  (h.has.holds.cells (a + 1) in2) (h.has.holds.cells b other1) (h.has.holds.cells (b + 1) other2) (h.has.holds.bytes a)
+                  (h.has.holds.bytes (a + 1)) (h.has.holds.bytes b) (h.has.holds.bytes (b + 1)));
+              at = six_on v.core.place (load_size 16 a) (load_size 17 (a + 1)) (load_size 18 b) (load_size 19 (b + 1)) _ _ h.at next;
+            },
+          ))
 
   pub less_number : (a low high : ℕ) → Ready' (Compare (compares.Less a (source.Number low high))) →
       Goes' (Compare (compares.Less a (source.Number low high)))

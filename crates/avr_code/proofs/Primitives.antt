@@ -655,69 +655,6 @@ module _ (board : Board) (lay : Layout) (m : AvrState) (s : Bytes) where
           coded (JumpWhere (test.Flag k false) l) (Plain (insn.Brbs (status_bit k) 2)) (Plain (insn.Jmp (slice_index lay.labels l)) ∷ []) ready refl refl refl
           ((status_low k, lit< tt), (named.1, tt)) st (fork false named ready.fits.1 ready.next low)
 
-  pub less_cells : (a : ℕ) (b : ℕ) → Ready (Compare (compares.Less a (source.Cells b))) → StandsAt board lay.places m s → Goes (Compare (compares.Less a
-      (source.Cells b)))
-  less_cells a b ready st = coded (Compare (compares.Less a (source.Cells b))) (Loads 16 a) (Loads 17 (a + 1) ∷ Loads 18 b ∷ Loads 19 (b + 1) ∷
-      Plain (insn.Cp 16 18) ∷ Plain (insn.Cpc 17 19) ∷ []) ready refl refl refl (
-        (lit< tt, ready.admitted.0.0),
-        (
-          (lit< tt, ready.admitted.0.1),
-          (
-            (lit< tt, ready.admitted.1.0),
-            (
-              (lit< tt, ready.admitted.1.1),
-              (
-                (lit< tt, lit< tt),
-                ((lit< tt, lit< tt), tt),
-              ),
-            ),
-          ),
-        ),
-      ) st
-      (λ v h. (
-        le_more _,
-        record {
-          has = has_same board lay.places v _ s (alike v _ refl refl refl (λ port. refl) refl refl refl refl) h.has
-              (Some (record { kind = kind.Less; value = nat_lt (lifted (word_at s.store a)) (lifted (word_from s.store (source.Cells b))) })) (suc s.place)
-              refl
-              (less_flag (cell s.store a) (cell s.store (a + 1)) (cell s.store b) (cell s.store (b + 1)) _ _ _ _ (h.has.holds.cells a ready.admitted.0.0)
-              (h.has.holds.cells (a + 1) ready.admitted.0.1) (h.has.holds.cells b ready.admitted.1.0) (h.has.holds.cells (b + 1) ready.admitted.1.1)
-              (h.has.holds.bytes a) (h.has.holds.bytes (a + 1)) (h.has.holds.bytes b) (h.has.holds.bytes (b + 1)));
-          at = six_on v.core.place (load_size 16 a) (load_size 17 (a + 1)) (load_size 18 b) (load_size 19 (b + 1)) _ _ h.at ready.next;
-        },
-      ))
-
-  pub equal_cells : (a : ℕ) (b : ℕ) → Ready (Compare (compares.Equal a (source.Cells b))) → StandsAt board lay.places m s → Goes (Compare (compares.Equal a
-      (source.Cells b)))
-  equal_cells a b ready st = coded (Compare (compares.Equal a (source.Cells b))) (Loads 16 a) (Loads 17 (a + 1) ∷ Loads 18 b ∷ Loads 19 (b + 1) ∷
-      Plain (insn.Cp 16 18) ∷ Plain (insn.Cpc 17 19) ∷ []) ready refl refl refl (
-        (lit< tt, ready.admitted.0.0),
-        (
-          (lit< tt, ready.admitted.0.1),
-          (
-            (lit< tt, ready.admitted.1.0),
-            (
-              (lit< tt, ready.admitted.1.1),
-              (
-                (lit< tt, lit< tt),
-                ((lit< tt, lit< tt), tt),
-              ),
-            ),
-          ),
-        ),
-      ) st
-      (λ v h. (
-        le_more _,
-        record {
-          has = has_same board lay.places v _ s (alike v _ refl refl refl (λ port. refl) refl refl refl refl) h.has
-              (Some (record { kind = kind.Equal; value = word_at s.store a == word_from s.store (source.Cells b) })) (suc s.place) refl
-              (equal_flag (cell s.store a) (cell s.store (a + 1)) (cell s.store b) (cell s.store (b + 1)) _ _ _ _ (h.has.holds.cells a ready.admitted.0.0)
-              (h.has.holds.cells (a + 1) ready.admitted.0.1) (h.has.holds.cells b ready.admitted.1.0) (h.has.holds.cells (b + 1) ready.admitted.1.1)
-              (h.has.holds.bytes a) (h.has.holds.bytes (a + 1)) (h.has.holds.bytes b) (h.has.holds.bytes (b + 1)));
-          at = six_on v.core.place (load_size 16 a) (load_size 17 (a + 1)) (load_size 18 b) (load_size 19 (b + 1)) _ _ h.at ready.next;
-        },
-      ))
-
   pub below : (a n : ℕ) → Ready (Compare (compares.Below a n)) → StandsAt board lay.places m s → Goes (Compare (compares.Below a n))
   below a n ready st = coded (Compare (compares.Below a n)) (Loads 16 a) (Loads 17 (a + 1) ∷ Plain (insn.Cpi 16 n) ∷ Plain (insn.Cpc 17 1) ∷ []) ready refl
       refl refl

@@ -232,9 +232,9 @@ module _ (board : Board) (lay : Layout) (m : AvrState) (s : Bytes) (st : StandsA
   plainly (Call l) ready q low = control.call board lay m s l ready st
   plainly Return ready q low = control.return board lay m s ready st
   plainly (CyclePoll l) ready q low = absurd (cc q)
-  plainly (Compare (compares.Less a (source.Cells b))) ready q low = law.less_cells board lay m s a b ready st
+  plainly (Compare (compares.Less a (source.Cells b))) ready q low = numbers.less_cells board lay m s st a b ready
   plainly (Compare (compares.Less a (source.Number low high))) ready q inside = numbers.less_number board lay m s st a low high ready
-  plainly (Compare (compares.Equal a (source.Cells b))) ready q low = law.equal_cells board lay m s a b ready st
+  plainly (Compare (compares.Equal a (source.Cells b))) ready q low = numbers.equal_cells board lay m s st a b ready
   plainly (Compare (compares.Equal a (source.Number low high))) ready q inside = numbers.equal_number board lay m s st a low high ready
   plainly (Compare (compares.Below a n)) ready q low = law.below board lay m s a n ready st
   plainly (Start n) ready q low = starts.start board lay m s n ready st

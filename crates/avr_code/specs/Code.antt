@@ -229,9 +229,11 @@ word_code (words.NegateIf to sign) = negate_code to sign
 word_code words.MultiplyStep = multiply_code
 word_code words.DivideStep = divide_code
 
--- R16 and R17 are compared with a word; of a number the low byte stands in the instruction, and the high byte 0 is that of R1
+-- R16 and R17 are compared with a word: one in registers stays there, of a number the low byte stands in the instruction, and the high byte 0 is that of R1
 abbrev pub against : WordSource → List Piece
-against (source.Cells b) = word_loaded 18 (source.Cells b) ++ (Plain (insn.Cp 16 18) ∷ Plain (insn.Cpc 17 19) ∷ [])
+against (source.Cells b) =
+    if nat_lt b IO_FIRST then Plain (insn.Cp 16 b) ∷ Plain (insn.Cpc 17 (b + 1)) ∷ []
+    else Loads 18 b ∷ Loads 19 (b + 1) ∷ Plain (insn.Cp 16 18) ∷ Plain (insn.Cpc 17 19) ∷ []
 against (source.Number low high) =
     if high == 0 then Plain (insn.Cpi 16 low) ∷ Plain (insn.Cpc 17 1) ∷ []
     else Plain (insn.Ldi 18 high) ∷ Plain (insn.Cpi 16 low) ∷ Plain (insn.Cpc 17 18) ∷ []
