@@ -210,10 +210,32 @@ word_loaded r (source.Number low high) = Plain (insn.Ldi r low) ∷ Plain (insn.
 abbrev pub word_stored : ℕ → List Piece
 word_stored a = Stores a 16 ∷ Stores (a + 1) 17 ∷ []
 
+-- a cell that is one of the registers that LDI takes
+abbrev pub takes_number : ℕ → Bool
+takes_number a = nat_le 16 a && nat_lt a IO_FIRST
+
+-- A cell becomes a number, and then the rest: 0 is that of R1, a register takes another number by itself, and any other cell by R16.
+abbrev pub byte_set : ℕ → ℕ → List Piece → List Piece
+byte_set a x rest =
+    if x == 0 then Stores a 1 ∷ rest else if takes_number a then Plain (insn.Ldi a x) ∷ rest else Plain (insn.Ldi 16 x) ∷ Stores a 16 ∷ rest
+
+-- A cell becomes another one, and then the rest: by R16, where none of the two is a register.
+abbrev pub byte_moved : ℕ → ℕ → List Piece → List Piece
+byte_moved to from rest =
+    if nat_lt to IO_FIRST then Loads to from ∷ rest else if nat_lt from IO_FIRST then Stores to from ∷ rest else Loads 16 from ∷ Stores to 16 ∷ rest
+
+-- the low byte first, but the high one where the low one would take its place
+abbrev pub move_code : ℕ → WordSource → List Piece
+move_code to (source.Number low high) = byte_set to low (byte_set (to + 1) high [])
+move_code to (source.Cells from) =
+    if to == from + 1 then byte_moved (to + 1) (from + 1) (byte_moved to from []) else byte_moved to from (byte_moved (to + 1) (from + 1) [])
+
 abbrev pub byte_code : ByteOp → List Piece
-byte_code (bytes.Put to x) = Plain (insn.Ldi 16 x) ∷ Stores to 16 ∷ []
-byte_code (bytes.Copy to from) = Loads 16 from ∷ Stores to 16 ∷ []
-byte_code (bytes.Xor to a b) = Loads 16 a ∷ Loads 17 b ∷ Plain (insn.Eor 16 17) ∷ Stores to 16 ∷ []
+byte_code (bytes.Put to x) = byte_set to x []
+byte_code (bytes.Copy to from) = byte_moved to from []
+byte_code (bytes.Xor to a b) =
+    if nat_lt to IO_FIRST && (nat_lt b IO_FIRST && not (b == to)) then Loads to a ∷ Plain (insn.Eor to b) ∷ []
+    else Loads 16 a ∷ Loads 17 b ∷ Plain (insn.Eor 16 17) ∷ Stores to 16 ∷ []
 
 -- the product takes R24 and R25 by the lowest bits of R22 and R23, and the quotient the next bit
 abbrev pub multiply_code : List Piece
@@ -226,32 +248,55 @@ divide_code =
     Plain (insn.Add 24 24) ∷ Plain (insn.Adc 25 25) ∷ Plain (insn.Adc 30 30) ∷ Plain (insn.Adc 31 31) ∷ Plain (insn.Cp 30 22) ∷ Plain (insn.Cpc 31 23)
     ∷ Plain (insn.Brbs 0 3) ∷ Plain (insn.Sub 30 22) ∷ Plain (insn.Sbc 31 23) ∷ Plain (insn.Inc 24) ∷ []
 
--- the word's complement and 1 more, where the sign's bit 7 is 1
+-- the word's complement and 1 more, where the sign's bit 7 is 1: in their place, if both are in registers
 abbrev pub negate_code : ℕ → ℕ → List Piece
 negate_code to sign =
+    if nat_lt to IO_FIRST && nat_lt sign IO_FIRST then
+    Plain (insn.Sbrs sign 7) ∷ Plain (insn.Rjmp 4) ∷ Plain (insn.Com to) ∷ Plain (insn.Com (to + 1)) ∷ Plain (insn.Adc to 1) ∷ Plain (insn.Adc (to + 1) 1) ∷
+    [] else
     Loads 18 sign ∷ Loads 16 to ∷ Loads 17 (to + 1) ∷ Plain (insn.Sbrs 18 7) ∷ Plain (insn.Rjmp 4) ∷ Plain (insn.Com 16) ∷ Plain (insn.Com 17)
     ∷ Plain (insn.Adc 16 1) ∷ Plain (insn.Adc 17 1) ∷ word_stored to
 
+-- A word is added to R16 and R17; the high byte 0 of a number is that of R1.
+abbrev pub added : WordSource → List Piece
+added (source.Cells b) = word_loaded 18 (source.Cells b) ++ (Plain (insn.Add 16 18) ∷ Plain (insn.Adc 17 19) ∷ [])
+added (source.Number low high) =
+    if high == 0 then Plain (insn.Ldi 18 low) ∷ Plain (insn.Add 16 18) ∷ Plain (insn.Adc 17 1) ∷ []
+    else Plain (insn.Ldi 18 low) ∷ Plain (insn.Ldi 19 high) ∷ Plain (insn.Add 16 18) ∷ Plain (insn.Adc 17 19) ∷ []
+
 abbrev pub word_code : WordOp → List Piece
-word_code (words.Move to from) = word_loaded 16 from ++ word_stored to
+word_code (words.Move to from) = move_code to from
 word_code (words.Increment to) =
     Loads 16 to ∷ Loads 17 (to + 1) ∷ Plain (insn.Bset 0) ∷ Plain (insn.Adc 16 1) ∷ Plain (insn.Adc 17 1) ∷ word_stored to
 word_code (words.Decrement to) =
     Loads 16 to ∷ Loads 17 (to + 1) ∷ Plain (insn.Bset 0) ∷ Plain (insn.Sbc 16 1) ∷ Plain (insn.Sbc 17 1) ∷ word_stored to
-word_code (words.Add to a b) =
-    word_loaded 16 (source.Cells a) ++ (word_loaded 18 b ++ (Plain (insn.Add 16 18) ∷ Plain (insn.Adc 17 19) ∷ word_stored to))
+word_code (words.Add to a b) = word_loaded 16 (source.Cells a) ++ (added b ++ word_stored to)
 word_code (words.Subtract to a b) =
     word_loaded 16 a ++ (word_loaded 18 b ++ (Plain (insn.Sub 16 18) ∷ Plain (insn.Sbc 17 19) ∷ word_stored to))
 word_code (words.NegateIf to sign) = negate_code to sign
 word_code words.MultiplyStep = multiply_code
 word_code words.DivideStep = divide_code
 
+-- R16 and R17 are compared with a word: one in registers stays there, of a number the low byte stands in the instruction, and the high byte 0 is that of R1
+abbrev pub against : WordSource → List Piece
+against (source.Cells b) =
+    if nat_lt b IO_FIRST then Plain (insn.Cp 16 b) ∷ Plain (insn.Cpc 17 (b + 1)) ∷ []
+    else Loads 18 b ∷ Loads 19 (b + 1) ∷ Plain (insn.Cp 16 18) ∷ Plain (insn.Cpc 17 19) ∷ []
+against (source.Number low high) =
+    if high == 0 then Plain (insn.Cpi 16 low) ∷ Plain (insn.Cpc 17 1) ∷ []
+    else Plain (insn.Ldi 18 high) ∷ Plain (insn.Cpi 16 low) ∷ Plain (insn.Cpc 17 18) ∷ []
+
 abbrev pub compared : ℕ → WordSource → List Piece
-compared a b = word_loaded 16 (source.Cells a) ++ (word_loaded 18 b ++ (Plain (insn.Cp 16 18) ∷ Plain (insn.Cpc 17 19) ∷ []))
+compared a b = word_loaded 16 (source.Cells a) ++ against b
+
+-- a word is below 0 where its high byte is, and it is 0 where no bit of its bytes is 1
+abbrev pub is_nothing : WordSource → Bool
+is_nothing (source.Cells b) = false
+is_nothing (source.Number low high) = low == 0 && high == 0
 
 abbrev pub compare_code : CompareOp → List Piece
-compare_code (compares.Less a b) = compared a b
-compare_code (compares.Equal a b) = compared a b
+compare_code (compares.Less a b) = if is_nothing b then Loads 17 (a + 1) ∷ Plain (insn.Cp 17 1) ∷ [] else compared a b
+compare_code (compares.Equal a b) = if is_nothing b then Loads 16 a ∷ Loads 17 (a + 1) ∷ Plain (insn.Or 16 17) ∷ [] else compared a b
 compare_code (compares.Below a n) =
     word_loaded 16 (source.Cells a) ++ (Plain (insn.Cpi 16 n) ∷ Plain (insn.Cpc 17 1) ∷ [])
 
@@ -259,11 +304,22 @@ compare_code (compares.Below a n) =
 abbrev pub poll_code : List Piece
 poll_code = Plain (insn.In 16 0x38) ∷ Plain (insn.Sbrs 16 4) ∷ Plain (insn.Rjmp 4093) ∷ Plain (insn.Out 0x38 16) ∷ []
 
--- A becomes the value whose index is the low byte of R: each index is compared. An index is a byte, so that of a table the first 256 values have code.
-abbrev pub table_code : ℕ → List ℕ → List Piece
-table_code i [] = []
-table_code i (x ∷ xs) =
-    Plain (insn.Cpi 30 i) ∷ Plain (insn.Brbc 1 2) ∷ Plain (insn.Ldi 24 (x % 256)) ∷ Plain (insn.Ldi 25 (x / 256 % 256)) ∷ table_code (i + 1) xs
+-- A becomes the value whose index is the low byte of R. It has the first value, and goes from value to value as far as the index: behind the comparison with
+-- an index stand the bytes by which its value is another than the one before. An index is a byte, so that of a table the first 256 values have code.
+abbrev pub next_value : ℕ → ℕ → ℕ → List Piece → List Piece
+next_value i before x rest =
+    if x % 256 == before % 256 then
+    (if x / 256 % 256 == before / 256 % 256 then rest else Plain (insn.Cpi 30 i) ∷ Plain (insn.Brbs 0 1) ∷ Plain (insn.Ldi 25 (x / 256 % 256)) ∷ rest) else
+    (if x / 256 % 256 == before / 256 % 256 then Plain (insn.Cpi 30 i) ∷ Plain (insn.Brbs 0 1) ∷ Plain (insn.Ldi 24 (x % 256)) ∷ rest else
+    Plain (insn.Cpi 30 i) ∷ Plain (insn.Brbs 0 2) ∷ Plain (insn.Ldi 24 (x % 256)) ∷ Plain (insn.Ldi 25 (x / 256 % 256)) ∷ rest)
+
+abbrev pub values_from : ℕ → ℕ → List ℕ → List Piece
+values_from i before [] = []
+values_from i before (x ∷ xs) = next_value i before x (values_from (i + 1) x xs)
+
+abbrev pub table_code : List ℕ → List Piece
+table_code [] = []
+table_code (x ∷ xs) = Plain (insn.Ldi 24 (x % 256)) ∷ Plain (insn.Ldi 25 (x / 256 % 256)) ∷ values_from 1 x xs
 
 -- So many bytes of the SRAM become 0, from its first on: X goes over them, and its own bytes are kept in R18 and R19. The loop ends where X is behind the
 -- last of them.
@@ -305,7 +361,7 @@ code_of board (AdcPoll l) labels = []
 code_of board (Bit op) labels = bit_code op
 code_of board (Device op) labels = []
 code_of board (Eeprom op) labels = []
-code_of board (Table values l) labels = table_code 0 (take 256 values)
+code_of board (Table values l) labels = table_code (take 256 values)
 
 -- the words that stand in flash for an instruction, the first one and what may follow it
 abbrev pub words_by : ℕ → AvrInsn → List ℕ
