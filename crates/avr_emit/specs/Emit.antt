@@ -1,5 +1,5 @@
 -- The words of instructions, and what a function asks of the bits that it reads and writes.
-use Rattle.std.specs.Prelude.{ℕ, ◌+◌, ◌-◌, ◌^◌, ◌<◌, Bool, true, not, List, [], ◌∷◌, ◌++◌}
+use Rattle.std.specs.Prelude.{ℕ, ◌+◌, ◌<◌, Bool, true, false, not, List, [], ◌∷◌, ◌++◌}
 use Rattle.chip_tables.specs.Bits.{as_bit}
 use Rattle.byte_code.specs.Store.{in_byte}
 use Rattle.byte_code.specs.declared.prim.BitSource.{BitSource}
@@ -13,7 +13,7 @@ use Rattle.byte_code.specs.declared.prim.Test.TheVariants as test
 use Rattle.avr_mach.specs.declared.insn.AvrInsn.{AvrInsn}
 use Rattle.avr_mach.specs.Words.{size_of}
 use Rattle.avr_mach.specs.declared.insn.AvrInsn.TheVariants as insn
-use Rattle.avr_code.specs.Code.{Piece, Plain, Loads, Stores, Fetches, unless, word_stored, words_by}
+use Rattle.avr_code.specs.Code.{Piece, Plain, Loads, Stores, Latches, Skips, by_cell, put_wire_if, put_byte_if, word_stored, words_by}
 
 -- the words of instructions, in order
 abbrev pub insn_words : List AvrInsn → List ℕ
@@ -46,16 +46,16 @@ HasTested test.Sends = Unit {0}
 HasTested test.Writes = Unit {0}
 HasTested test.NoneWaits = Unit {0}
 
--- a register becomes the bit or its opposite
-abbrev pub copied_to : ℕ → BitSource → Bool → List Piece
-copied_to d from inverted =
-    Fetches from ∷ Plain (insn.Ldi d (as_bit inverted)) ∷ unless from true ∷ Plain (insn.Ldi d (as_bit (not inverted))) ∷ []
+-- where a bit is so, once it was fetched, another becomes so
+abbrev pub put_where : BitSource → Bool → BitDest → Bool → List Piece
+put_where from is (dest.Cell a b) x =
+    by_cell a (Skips from (not is) ∷ Plain (insn.Ldi 20 (as_bit x)) ∷ []) (put_wire_if from is a x) (put_byte_if from is a (in_byte b) x)
+put_where from is (dest.Latch port b) x = Skips from (not is) ∷ Latches port (in_byte b) x ∷ []
 
--- a bit of a cell becomes the bit or its opposite
-abbrev pub copied_in_byte : ℕ → ℕ → BitSource → Bool → List Piece
-copied_in_byte a b from inverted =
-    Fetches from ∷ Loads 16 a ∷ Plain (insn.Ldi 17 (2 ^ in_byte b)) ∷ Plain (insn.Ldi 19 (255 - 2 ^ in_byte b)) ∷ unless from (not inverted) ∷
-    Plain (insn.Or 16 17) ∷ unless from inverted ∷ Plain (insn.And 16 19) ∷ Stores a 16 ∷ []
+-- a bit of a latch takes one that is held
+abbrev pub latch_taken : ℕ → ℕ → BitSource → Bool → List Piece
+latch_taken port b from inverted =
+    Skips from inverted ∷ Latches port (in_byte b) true ∷ Skips from (not inverted) ∷ Latches port (in_byte b) false ∷ []
 
 -- a word becomes what two instructions make of R16 and R17 and the carry, which is 1
 abbrev pub changed_by : ℕ → AvrInsn → AvrInsn → List Piece

@@ -4,7 +4,9 @@ ghost use Rattle.std.specs.Prelude.{◌≡◌, ◌≤◌, ◌+◌, ℕ, Bool, ta
 ghost use Rattle.byte_code.specs.declared.prim.BytePrim.TheVariants.{Start};
 ghost use Rattle.byte_code.specs.declared.prim.FlagKind.{FlagKind};
 ghost use Rattle.avr_mach.specs.Words.{size_of};
-ghost use Rattle.avr_code.specs.Code.{Board, Loads, Stores, Fetches, insn_of, by_cell, put_code, copy_code, put_if_code, put_on_flag_code, bit_code, test_code, byte_code, word_code, word_loaded, word_stored, compare_code, start_code, table_code, size_in, word_count, bit_cycles, latch_cycles, more_cycles};
+ghost use Rattle.avr_code.specs.Code.{Board, Loads, Stores, insn_of, by_cell, fetch_code, held_code, put_code, put_wire, put_byte, put_wire_if, put_byte_if, copy_wire, copy_byte, wire_taken, copy_code, put_if_code, put_on_flag_code, bit_code, test_code, byte_code, word_code, word_loaded, word_stored, compare_code, start_code, table_code, size_in, word_count, bit_cycles, latch_cycles, more_cycles};
+ghost use Rattle.byte_code.specs.declared.prim.BitSource.{BitSource};
+ghost use Rattle.avr_emit.specs.Emit.{put_where};
 
 use crate::insns::is_wire;
 use byte_code::prim::{
@@ -133,13 +135,30 @@ fn source_words(from: WordSource) -> u32
     }
 }
 
-/// The words by which a register takes the byte of a bit.
+/// The words by which R18 takes a bit of the SRAM.
 fn fetch_words(from: BitSource) -> u32
-    ensures value { size_of (insn_of (Fetches from)) ≡ result }
+    ensures value { size_in (fetch_code from) ≡ result }
     ensures few { result ≤ 2 }
 {
     match from {
-        BitSource::Cell { address, .. } => cell_words(u32::from(address)),
+        BitSource::Cell { address, .. } => {
+            if address < IO_FIRST {
+                0
+            } else {
+                2
+            }
+        }
+        BitSource::Level { .. } | BitSource::Latch { .. } => 0,
+    }
+}
+
+/// The words by which a bit is read once, to be tested twice.
+fn held_words(from: BitSource) -> u32
+    ensures value { size_in (held_code from) ≡ result }
+    ensures few { result ≤ 2 }
+{
+    match from {
+        BitSource::Cell { .. } => fetch_words(from),
         BitSource::Level { .. } | BitSource::Latch { .. } => 1,
     }
 }
@@ -175,51 +194,105 @@ fn bit_words(op: BitOp) -> u32
     ensures few { result ≤ 12 }
 {
     match op {
-        BitOp::Put { to, .. } => put_words(to),
-        BitOp::Copy { to, from, .. } => copy_words(to, from),
-        BitOp::PutIf { test, to, .. } => put_if_words(to, test),
+        BitOp::Put { to, value } => put_words(to, value),
+        BitOp::Copy { to, from, inverted } => copy_words(to, from, inverted),
+        BitOp::PutIf {
+            test, to, value, ..
+        } => put_if_words(to, test, value),
         BitOp::PutOnFlag { to, .. } => put_on_flag_words(to),
     }
 }
 
-fn put_words(to: BitDest) -> u32
-    ensures value { (x : Bool) → size_in (put_code to x) ≡ result }
+fn put_words(to: BitDest, x: bool) -> u32
+    ensures value { size_in (put_code to x) ≡ result }
     ensures few { result ≤ 6 }
 {
     match to {
-        BitDest::Cell { address, .. } => {
-            let cell = cell_words(u32::from(address));
-            by_cell(address, 1, 2, 2 * cell + 2)
-        }
+        BitDest::Cell { address, .. } => by_cell(address, 1, wire_words(x), byte_set_words(address)),
         BitDest::Latch { .. } => 1,
     }
 }
 
-fn copy_words(to: BitDest, from: BitSource) -> u32
-    ensures value { (inverted : Bool) → size_in (copy_code to from inverted) ≡ result }
+/// The words by which a wire becomes `x`.
+fn wire_words(x: bool) -> u32
+    ensures value { (a : ℕ) → size_in (put_wire a x) ≡ result }
+    ensures tested { (a : ℕ) (from : BitSource) (is : Bool) → size_in (put_wire_if from is a x) ≡ result + 1 }
+    ensures few { result ≤ 2 }
+{
+    if x { 2 } else { 1 }
+}
+
+/// The words by which a bit of a cell becomes so.
+fn byte_set_words(a: u16) -> u32
+    ensures value { (b : ℕ) (x : Bool) → size_in (put_byte a b x) ≡ result }
+    ensures tested { (b : ℕ) (x : Bool) (from : BitSource) (is : Bool) → size_in (put_byte_if from is a b x) ≡ result + 1 }
+    ensures few { result ≤ 6 }
+{
+    if a < IO_FIRST { 2 } else { 6 }
+}
+
+fn copy_words(to: BitDest, from: BitSource, inverted: bool) -> u32
+    ensures value { size_in (copy_code to from inverted) ≡ result }
     ensures few { result ≤ 12 }
 {
-    let fetch = fetch_words(from);
     match to {
         BitDest::Cell { address, .. } => {
-            let cell = cell_words(u32::from(address));
-            by_cell(address, fetch + 3, fetch + 4, fetch + 2 * cell + 6)
+            if is_wire(address) {
+                copy_wire_words(from, inverted)
+            } else {
+                copy_byte_words(address, from)
+            }
         }
-        BitDest::Latch { .. } => fetch + 4,
+        BitDest::Latch { .. } => held_words(from) + 4,
     }
 }
 
-fn put_if_words(to: BitDest, from: BitSource) -> u32
-    ensures value { (is x : Bool) → size_in (put_if_code from is to x) ≡ result }
+fn copy_wire_words(from: BitSource, inverted: bool) -> u32
+    ensures value { (a : ℕ) → size_in (copy_wire a from inverted) ≡ result }
+    ensures few { result ≤ 6 }
+{
+    match from {
+        BitSource::Cell { address, .. } => {
+            if is_wire(address) && !inverted {
+                1
+            } else {
+                take_wire_words(from)
+            }
+        }
+        BitSource::Level { .. } | BitSource::Latch { .. } => take_wire_words(from),
+    }
+}
+
+fn take_wire_words(from: BitSource) -> u32
+    ensures value { (a : ℕ) (inverted : Bool) → size_in (wire_taken a from inverted) ≡ result }
+    ensures few { result ≤ 6 }
+{
+    fetch_words(from) + 4
+}
+
+fn copy_byte_words(a: u16, from: BitSource) -> u32
+    ensures value { (b : ℕ) (inverted : Bool) → size_in (copy_byte a b from inverted) ≡ result }
+    ensures few { result ≤ 10 }
+{
+    fetch_words(from) + 2 * cell_words(u32::from(a)) + 4
+}
+
+fn put_if_words(to: BitDest, from: BitSource, x: bool) -> u32
+    ensures value { (is : Bool) → size_in (put_if_code from is to x) ≡ result }
     ensures few { result ≤ 9 }
 {
-    let fetch = fetch_words(from);
+    fetch_words(from) + put_where_words(to, x)
+}
+
+fn put_where_words(to: BitDest, x: bool) -> u32
+    ensures value { (from : BitSource) (is : Bool) → size_in (put_where from is to x) ≡ result }
+    ensures few { result ≤ 7 }
+{
     match to {
         BitDest::Cell { address, .. } => {
-            let cell = cell_words(u32::from(address));
-            by_cell(address, fetch + 2, fetch + 3, fetch + 2 * cell + 3)
+            by_cell(address, 2, wire_words(x) + 1, byte_set_words(address) + 1)
         }
-        BitDest::Latch { .. } => fetch + 2,
+        BitDest::Latch { .. } => 2,
     }
 }
 
