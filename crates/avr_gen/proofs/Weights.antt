@@ -1,7 +1,7 @@
 -- What the primitives of a program's code weigh, each of them and all together, whatever the chip is.
-use Rattle.std.proofs.Common.{◌≡◌, ℕ, zero, suc, ◌+◌, ◌*◌, ◌^◌, ◌<◌, ◌≤◌, Bool, true, false, List, [], ◌∷◌, ◌++◌, length, Option, Some, None, ℤ, pos, refl, arith}
+use Rattle.std.proofs.Common.{◌≡◌, ℕ, zero, suc, ◌+◌, ◌*◌, ◌^◌, ◌<◌, ◌≤◌, Bool, true, false, cond, List, [], ◌∷◌, ◌++◌, length, Option, Some, None, ℤ, pos, refl, arith}
 use Rattle.std.proofs.lemmas.List.Sums.{sum_by-cons, sum_by-append}
-use Rattle.std.specs.Prelude.{if◌then◌else◌, int_lt, sum_by}
+use Rattle.std.specs.Prelude.{if◌then◌else◌, int_lt, count_by, sum_by}
 use Rattle.std.specs.Ordering.{int_eq}
 use Rattle.chip_tables.specs.Memory.{ram_size}
 use Rattle.chip_tables.specs.declared.scratch.Scratch.{Scratch}
@@ -11,7 +11,7 @@ use Rattle.ladder_meaning.specs.Numbers.{value_at}
 use Rattle.mem_plan.specs.Needs.{ram_need}
 use Rattle.int_code.specs.Shapes.{shape_of}
 use Rattle.int_code.specs.declared.op.IntOp.{IntOp}
-use Rattle.int_code.specs.declared.op.IntOp.TheVariants.{Set, Clr, Cpy, Not, Ifs, Ifc, Iflt, Ifeq, Els, Fi, Lit, Mov, Add, Sub, Inc, Dec, Tab}
+use Rattle.int_code.specs.declared.op.IntOp.TheVariants.{Set, Clr, Cpy, Not, Ifs, Ifc, Iflt, Ifeq, Els, Fi, Lit, Mov, Add, Sub, Mul, Div, Inc, Dec, Tab}
 use Rattle.int_code.specs.declared.op.IntProgram.{IntProgram}
 use Rattle.int_code.specs.declared.op.NumSource.{NumSource}
 use Rattle.int_code.specs.declared.op.NumSource.TheVariants.{V, N}
@@ -19,8 +19,10 @@ use Rattle.byte_code.specs.declared.prim.BytePrim.{BytePrim}
 use Rattle.byte_code.specs.declared.prim.BytePrim.TheVariants.{Start, CyclePoll, AdcPoll, Label, Jump, Call, Return, JumpWhere, Bit, Byte, Word, Compare, Device, Eeprom, Table}
 use Rattle.byte_code.specs.declared.prim.Paced.{Paced}
 use Rattle.byte_routines.specs.Routines.{multiply, divide}
-use Rattle.byte_lower.specs.Code.{CanPlace, booted, polling, start_values, code_of}
-use Rattle.byte_lower.specs.Lists.{paced, label_of, list_of, lists_of, top_of, labels_behind, unless_less, unless_equal, sum, difference, move, number, guard_of, look_up, put_known, put_where, joined}
+use Rattle.byte_lower.proofs.NameLemmas.{count_more}
+use Rattle.byte_lower.specs.Layout.{own_cells}
+use Rattle.byte_lower.specs.Code.{CanPlace, booted, polling, start_values, if_called, routines_of, code_of}
+use Rattle.byte_lower.specs.Lists.{paced, label_of, list_of, lists_of, top_of, labels_behind, unless_less, unless_equal, sum, difference, product, quotient, calls_product, calls_quotient, move, number, guard_of, look_up, put_known, put_where, joined}
 use Rattle.byte_lower.specs.declared.guard.Guard.{Guard}
 use Rattle.byte_lower.specs.declared.layout.Layout.{Layout}
 
@@ -119,6 +121,16 @@ module _ (o : Layout) where
   differences v (N n) (V b) = one
   differences v (N n) (N m) = one
 
+  products : (v : ℕ) (w u : NumSource) → sum_by heft (product o v w u) ≤ 1400
+  products v (N n) (N m) = one
+  products v (N n) (V b) = omega arith
+  products v (V a) u = omega arith
+
+  quotients : (v : ℕ) (w u : NumSource) → sum_by heft (quotient o v w u) ≤ 1400
+  quotients v (N n) (N m) = one
+  quotients v (N n) (V b) = omega arith
+  quotients v (V a) u = omega arith
+
   known : (v : ℕ) (x : Option ℤ) → sum_by heft (put_known o v x) ≤ 1400
   known v None = none
   known v (Some n) = one
@@ -144,6 +156,8 @@ module _ (o : Layout) where
   list (Mov v f) l top = one
   list (Add v w u) l top = sums v w u
   list (Sub v w u) l top = differences v w u
+  list (Mul v w u) l top = products v w u
+  list (Div v w u) l top = quotients v w u
   list (Inc v) l top = one
   list (Dec v) l top = one
   list (Tab v w values) l top = looked v w values l
@@ -173,16 +187,41 @@ module _ (o : Layout) where
       (add_start (sum_by heft (booted (move o v (number n)) ∷ rest)) (sum_by heft rest) (length ns) (sum_by-cons heft (booted (move o v (number n))) rest)
       (starts ns (suc v)))
 
-  -- the start, the start values, the poll and its label, the lists, and the jump back
-  in_all : (s a b c starts ops variables : ℕ) → s ≡ 16384 + (a + (96 + (96 + (b + c)))) → c ≡ 64 → a ≤ 64 * starts → b ≤ 1400 * ops → starts ≤ variables →
-      2 * variables ≤ 8192 → ops ≤ 1000000 → s < 2 ^ 32
-  in_all s a b c starts ops variables e f h g i j k = omega (arith, e, f, h, g, i, j, k)
+  counted : (f : IntOp → Bool) (ops : List IntOp) → count_by f ops ≤ length ops
+  counted f [] = omega arith
+  counted f (x ∷ ops) = by (f x) (count_more f x ops) (counted f ops)
+    where
+      by : (b : Bool) → count_by f (x ∷ ops) ≡ cond b 1 0 + count_by f ops → count_by f ops ≤ length ops → count_by f (x ∷ ops) ≤ suc (length ops)
+      by true e h = omega (arith, e, h)
+      by false e h = omega (arith, e, h)
+
+  multiply_if : (s : Scratch) (n : ℕ) → sum_by heft (if_called (multiply s) n) ≤ 896 * n + 224
+  multiply_if s zero = omega arith
+  multiply_if s (suc n) = let e = multiply_heft s (suc n) in omega (arith, e)
+
+  divide_if : (s : Scratch) (n : ℕ) → sum_by heft (if_called (divide s) n) ≤ 1952 * n + 512
+  divide_if s zero = omega arith
+  divide_if s (suc n) = let e = divide_heft s (suc n) in omega (arith, e)
+
+  routines : (ops : List IntOp) → sum_by heft (routines_of o ops) ≤ 2848 * length ops + 736
+  routines ops =
+      let s = own_cells o.plan.target in
+      let e = sum_by-append heft (if_called (multiply s) (count_by calls_product ops)) (if_called (divide s) (count_by calls_quotient ops)) in
+      let f = multiply_if s (count_by calls_product ops) in
+      let g = divide_if s (count_by calls_quotient ops) in
+      let h = counted calls_product ops in
+      let i = counted calls_quotient ops in omega (arith, e, f, g, h, i)
+
+  -- the start, the start values, the poll and its label, the lists, the jump back, and the routines
+  in_all : (s a b c r starts ops variables : ℕ) → s ≡ 16384 + (a + (96 + (96 + (b + c)))) → c ≡ 64 + r → r ≤ 2848 * ops + 736 → a ≤ 64 * starts →
+      b ≤ 1400 * ops → starts ≤ variables → 2 * variables ≤ 8192 → ops ≤ 1000000 → s < 2 ^ 32
+  in_all s a b c r starts ops variables e f l h g i j k = omega (arith, e, f, l, h, g, i, j, k)
 
   pub code_heft : (p : IntProgram) → CanPlace o p → sum_by heft (code_of o p) < 2 ^ 32
   code_heft p can =
       let first = start_values o p.starts 0 in
-      let own = lists_of o 0 p.ops 0 [] in
-      let last = paced (Jump 0) ∷ [] in
+      let own = lists_of o 0 p.ops 5 [] in
+      let last = paced (Jump 0) ∷ routines_of o p.ops in
       let behind = polling (Label 0) ∷ polling (CyclePoll 0) ∷ (own ++ last) in
       let e : sum_by heft (code_of o p) ≡ 16384 + sum_by heft (first ++ behind) =
       sum_by-cons heft (booted (Start (ram_need o.plan.sizes))) (first ++ behind) in
@@ -193,5 +232,6 @@ module _ (o : Layout) where
       sum_by-cons heft (polling (CyclePoll 0)) (own ++ last) in
       let i = sum_by-append heft own last in
       let room : 2 * o.plan.sizes.variables ≤ 8192 = (let fits = o.plan.ram_fits in let small = room_small o.plan.target in omega (arith, fits, small)) in
-      in_all (sum_by heft (code_of o p)) (sum_by heft first) (sum_by heft own) (sum_by heft last) (length p.starts) (length p.ops) o.plan.sizes.variables
-      (omega (arith, e, f, g, h, i)) refl (starts p.starts 0) (lists 0 p.ops 0 []) can.starts room can.few
+      in_all (sum_by heft (code_of o p)) (sum_by heft first) (sum_by heft own) (sum_by heft last) (sum_by heft (routines_of o p.ops)) (length p.starts) (length p.ops) o.plan.sizes.variables
+      (omega (arith, e, f, g, h, i)) (sum_by-cons heft (paced (Jump 0)) (routines_of o p.ops)) (routines p.ops) (starts p.starts 0)
+      (lists 0 p.ops 5 []) can.starts room can.few

@@ -1,7 +1,7 @@
 -- Each primitive of a program's code is one that code for its layout may have.
 use Rattle.std.proofs.Common.{◌≡◌, ℕ, zero, suc, ◌+◌, ◌-◌, ◌/◌, ◌<◌, ◌≤◌, Bool, true, false, List, [], ◌∷◌, ◌++◌, length, Option, Some, None, ℤ, pos, refl, sym, ap, ◌∙◌, arith}
 use Rattle.std.proofs.lemmas.Bool.{and_from, and_parts, or_left, or_right}
-use Rattle.std.specs.Prelude.{◌&&◌, ◌==◌, nat_lt, nat_le, if◌then◌else◌, int_lt, All}
+use Rattle.std.specs.Prelude.{◌&&◌, ◌==◌, nat_lt, nat_le, if◌then◌else◌, int_lt, All, count_by}
 use Rattle.std.specs.List.{list_any, list_all}
 use Rattle.std.specs.Ordering.{int_eq}
 use Rattle.std.proofs.lemmas.Bool.Decides.{nat_tests}
@@ -24,18 +24,19 @@ use Rattle.int_code.specs.declared.op.BitDest.TheVariants as opdest
 use Rattle.int_code.specs.declared.op.BitSource as read
 use Rattle.int_code.specs.declared.op.BitSource.TheVariants as opsource
 use Rattle.int_code.specs.declared.op.IntOp.{IntOp}
-use Rattle.int_code.specs.declared.op.IntOp.TheVariants.{Set, Clr, Cpy, Not, Ifs, Ifc, Iflt, Ifeq, Els, Fi, Lit, Mov, Add, Sub, Inc, Dec, Tab}
+use Rattle.int_code.specs.declared.op.IntOp.TheVariants.{Set, Clr, Cpy, Not, Ifs, Ifc, Iflt, Ifeq, Els, Fi, Lit, Mov, Add, Sub, Inc, Dec, Tab, Mul, Div}
 use Rattle.int_code.specs.declared.op.IntProgram.{IntProgram}
 use Rattle.int_code.specs.declared.op.NumSource.{NumSource}
 use Rattle.int_code.specs.declared.op.NumSource.TheVariants.{V, N}
-use Rattle.byte_code.specs.Admitted.{is_scratch, is_scratch_word, is_cell, is_word, reads_bit, writes_bit, admits}
+use Rattle.byte_code.specs.Admitted.{is_scratch, is_scratch_word, is_cell, is_word, reads_bit, writes_bit, admits, reads_word}
 use Rattle.byte_code.specs.declared.prim.Paced.{Paced}
+use Rattle.byte_routines.specs.Routines.{multiply, divide}
 use Rattle.byte_lower.proofs.CodeLemmas.{Every, every_on}
 use Rattle.byte_lower.proofs.ListLemmas.{guard_ranges}
 use Rattle.byte_lower.proofs.PlaceLemmas.{AvrWire, power, alone, shared, avr_view, wire_found, BitView, kept, wired, bit_view, WirePlace, Listed, kept_listed, low_listed, high_listed, places_apart}
-use Rattle.byte_lower.specs.Code.{CanPlace, booted, start_values, code_of}
+use Rattle.byte_lower.specs.Code.{CanPlace, booted, start_values, code_of, if_called}
 use Rattle.byte_lower.specs.Layout.{own_cells, word_cell, bit_cell, pin_at, dest_of, source_of, room_of}
-use Rattle.byte_lower.specs.Lists.{is_built, label_of, list_of, lists_of, top_of, labels_behind, unless_less, unless_equal, sum, difference, put_known, look_up, move, number, guard_of, put_where, joined}
+use Rattle.byte_lower.specs.Lists.{is_built, label_of, list_of, lists_of, top_of, labels_behind, unless_less, unless_equal, sum, difference, put_known, look_up, move, number, guard_of, put_where, joined, called, product, quotient, word_of_source, calls_product, calls_quotient}
 use Rattle.byte_lower.specs.Outfit.{outfit_of}
 use Rattle.byte_lower.specs.declared.guard.Guard.{Guard}
 use Rattle.byte_lower.specs.declared.layout.Layout.{Layout}
@@ -82,20 +83,20 @@ is_wire_scratch Mega16 c w h x = ap (λ p. is_scratch Mega16 p.address) (wired_a
 is_wire_scratch Interp c w h x = absurd (cc)
 is_wire_scratch AnsiC c w h x = absurd (cc)
 
--- the words in which a table finds its index and leaves its value
-index_is_scratch : (target : Target) → IsChip target → is_scratch_word target (own_cells target).outcome ≡ true
-index_is_scratch F628 c = refl
-index_is_scratch F877 c = refl
-index_is_scratch Mega16 c = refl
-index_is_scratch Interp c = absurd (cc)
-index_is_scratch AnsiC c = absurd (cc)
+-- the routines' words and cells are the compiler's
+record OwnScratch (t : Target) : Type 0 where
+  left : is_scratch_word t (own_cells t).left ≡ true
+  right : is_scratch_word t (own_cells t).right ≡ true
+  outcome : is_scratch_word t (own_cells t).outcome ≡ true
+  count : is_scratch t (own_cells t).count ≡ true
+  sign : is_scratch t (own_cells t).sign ≡ true
 
-taken_is_scratch : (target : Target) → IsChip target → is_scratch_word target (own_cells target).left ≡ true
-taken_is_scratch F628 c = refl
-taken_is_scratch F877 c = refl
-taken_is_scratch Mega16 c = refl
-taken_is_scratch Interp c = absurd (cc)
-taken_is_scratch AnsiC c = absurd (cc)
+own_scratch : (t : Target) → IsChip t → OwnScratch t
+own_scratch F628 c = record { left = refl; right = refl; outcome = refl; count = refl; sign = refl }
+own_scratch F877 c = record { left = refl; right = refl; outcome = refl; count = refl; sign = refl }
+own_scratch Mega16 c = record { left = refl; right = refl; outcome = refl; count = refl; sign = refl }
+own_scratch Interp c = absurd (cc)
+own_scratch AnsiC c = absurd (cc)
 
 module _ (o : Layout) (c : IsChip o.plan.target) (room : ram_need o.plan.sizes ≤ ram_size o.plan.target) where
   abbrev Admits : Paced → Type 0
@@ -162,10 +163,95 @@ module _ (o : Layout) (c : IsChip o.plan.target) (room : ram_need o.plan.sizes �
   differences v (N n) (V b) h = (and_from _ _ (word v h.0) (word b h.2), tt)
   differences v (N n) (N m) h = (one v h.0, tt)
 
+  own : OwnScratch o.plan.target
+  own = own_scratch o.plan.target c
+
+  own_cell : (a : ℕ) → is_scratch o.plan.target a ≡ true → is_cell (outfit_of o) a ≡ true
+  own_cell a h = or_left (is_scratch o.plan.target a) (list_any (holds a) (ram_ranges o.plan.target)) h
+
+  own_low : (a : ℕ) → is_scratch_word o.plan.target a ≡ true → is_cell (outfit_of o) a ≡ true
+  own_low a h = own_cell a (and_parts (is_scratch o.plan.target a) (is_scratch o.plan.target (a + 1)) h).0
+
+  own_high : (a : ℕ) → is_scratch_word o.plan.target a ≡ true → is_cell (outfit_of o) (a + 1) ≡ true
+  own_high a h = own_cell (a + 1) (and_parts (is_scratch o.plan.target a) (is_scratch o.plan.target (a + 1)) h).1
+
   own_word : (a : ℕ) → is_scratch_word o.plan.target a ≡ true → is_word (outfit_of o) a ≡ true
-  own_word a h =
-      let both = and_parts (is_scratch o.plan.target a) (is_scratch o.plan.target (a + 1)) h in
-      and_from _ _ (or_left (is_scratch o.plan.target a) _ both.0) (or_left (is_scratch o.plan.target (a + 1)) _ both.1)
+  own_word a h = and_from _ _ (own_low a h) (own_high a h)
+
+  number_read : (w : NumSource) → IsNumSource (room_of o) w → reads_word (outfit_of o) (word_of_source o w) ≡ true
+  number_read (V a) h = word a h
+  number_read (N n) h = refl
+
+  calls : (label outcome v : ℕ) (w u : NumSource) → is_scratch_word o.plan.target outcome ≡ true → IsComputed (room_of o) v w u →
+      Every Admits (called o label outcome v w u)
+  calls label outcome v w u out h = (
+    and_from _ _ (own_word (own_cells o.plan.target).left own.left) (number_read w h.1),
+    (
+      and_from _ _ (own_word (own_cells o.plan.target).right own.right) (number_read u h.2),
+      (refl, (and_from _ _ (word v h.0) (own_word outcome out), tt)),
+    ),
+  )
+
+  products : (v : ℕ) (w u : NumSource) → IsComputed (room_of o) v w u → Every Admits (product o v w u)
+  products v (N n) (N m) h = (one v h.0, tt)
+  products v (N n) (V b) h = calls 1 (own_cells o.plan.target).outcome v (N n) (V b) own.outcome h
+  products v (V a) u h = calls 1 (own_cells o.plan.target).outcome v (V a) u own.outcome h
+
+  quotients : (v : ℕ) (w u : NumSource) → IsComputed (room_of o) v w u → Every Admits (quotient o v w u)
+  quotients v (N n) (N m) h = (one v h.0, tt)
+  quotients v (N n) (V b) h = calls 3 (own_cells o.plan.target).left v (N n) (V b) own.left h
+  quotients v (V a) u h = calls 3 (own_cells o.plan.target).left v (V a) u own.left h
+
+  zero_put : (a : ℕ) → is_scratch_word o.plan.target a ≡ true → is_word (outfit_of o) a && true ≡ true
+  zero_put a h = and_from _ _ (own_word a h) refl
+
+  multiplies : (n : ℕ) → Every Admits (if_called (multiply (own_cells o.plan.target)) n)
+  multiplies zero = tt
+  multiplies (suc n) = (
+    refl,
+    (zero_put (own_cells o.plan.target).outcome own.outcome, (own_cell (own_cells o.plan.target).count own.count, (refl, (refl, (refl, (refl, tt)))))),
+  )
+
+  divides : (n : ℕ) → Every Admits (if_called (divide (own_cells o.plan.target)) n)
+  divides zero = tt
+  divides (suc n) =
+      let s = own_cells o.plan.target in (
+        refl,
+        (
+          and_from _ _ (own_cell s.sign own.sign) (and_from _ _ (own_high s.left own.left) (own_high s.right own.right)),
+          (
+            and_from _ _ (own_word s.left own.left) (own_high s.left own.left),
+            (
+              and_from _ _ (own_word s.right own.right) (own_high s.right own.right),
+              (
+                zero_put s.outcome own.outcome,
+                (
+                  own_cell s.count own.count,
+                  (
+                    zero_put s.right own.right,
+                    (
+                      refl,
+                      (
+                        refl,
+                        (
+                          refl,
+                          (
+                            refl,
+                            (
+                              and_from _ _ (own_word s.left own.left) (own_cell s.sign own.sign),
+                              (refl, (refl, (zero_put s.left own.left, (refl, tt)))),
+                            ),
+                          ),
+                        ),
+                      ),
+                    ),
+                  ),
+                ),
+              ),
+            ),
+          ),
+        ),
+      )
 
   known_value : (v : ℕ) (x : Option ℤ) → v < o.plan.sizes.variables → Every Admits (put_known o v x)
   known_value v None h = tt
@@ -176,8 +262,8 @@ module _ (o : Layout) (c : IsChip o.plan.target) (room : ram_need o.plan.sizes �
   looked v (V w) [] l h g = tt
   looked v (V w) (n ∷ []) l h g = (one w g, (refl, (one v h, (refl, tt))))
   looked v (V w) (n ∷ m ∷ ns) l h g =
-      let index = own_word (own_cells o.plan.target).outcome (index_is_scratch o.plan.target c) in
-      let taken = own_word (own_cells o.plan.target).left (taken_is_scratch o.plan.target c) in
+      let index = own_word (own_cells o.plan.target).outcome own.outcome in
+      let taken = own_word (own_cells o.plan.target).left own.left in
       (word w g, (refl, (and_from _ _ index (word w g), (refl, (and_from _ _ (word v h) taken, (refl, tt))))))
 
   list : (op : IntOp) (l top : ℕ) → is_built op ≡ true → IsInRange (room_of o) op → Every Admits (list_of o op l top)
@@ -195,6 +281,8 @@ module _ (o : Layout) (c : IsChip o.plan.target) (room : ram_need o.plan.sizes �
   list (Mov v f) l top built h = (two v f h.0 h.1, tt)
   list (Add v w u) l top built h = sums v w u h
   list (Sub v w u) l top built h = differences v w u h
+  list (Mul v w u) l top built h = products v w u h
+  list (Div v w u) l top built h = quotients v w u h
   list (Inc v) l top built h = (word v h, tt)
   list (Dec v) l top built h = (word v h, tt)
   list (Tab v w values) l top built h = looked v w values l h.0 h.1
@@ -235,6 +323,16 @@ module _ (o : Layout) (c : IsChip o.plan.target) (room : ram_need o.plan.sizes �
   admitted p can =
       every_all (λ q. admits (outfit_of o) q.prim) (code_of o p) (
         refl,
-        every_on Admits (start_values o p.starts 0) _ (starts p.starts 0 (omega (arith, can.starts)))
-            (refl, (refl, every_on Admits (lists_of o 0 p.ops 0 []) _ (lists 0 p.ops 0 [] can.built can.range) (refl, tt))),
+        every_on Admits (start_values o p.starts 0) _ (starts p.starts 0 (omega (arith, can.starts))) (
+          refl,
+          (
+            refl,
+            every_on Admits (lists_of o 0 p.ops 5 []) _ (lists 0 p.ops 5 [] can.built can.range) (
+              refl,
+              every_on Admits (if_called (multiply (own_cells o.plan.target)) (count_by calls_product p.ops))
+                  (if_called (divide (own_cells o.plan.target)) (count_by calls_quotient p.ops)) (multiplies (count_by calls_product p.ops))
+                  (divides (count_by calls_quotient p.ops)),
+            ),
+          ),
+        ),
       )

@@ -4,17 +4,19 @@ use Rattle.std.specs.Prelude.{slice_get, if◌then◌else◌, int_lt, ℤ, pos, 
 use Rattle.std.specs.Ordering.{int_eq}
 use Rattle.ladder_meaning.specs.Numbers.{value_at}
 use Rattle.int_code.specs.declared.op.IntOp.{IntOp}
-use Rattle.int_code.specs.declared.op.IntOp.TheVariants.{Set, Clr, Cpy, Not, Ifs, Ifc, Iflt, Ifeq, Els, Fi, Lit, Mov, Add, Sub, Inc, Dec, Tab}
+use Rattle.int_code.specs.declared.op.IntOp.TheVariants.{Set, Clr, Cpy, Not, Ifs, Ifc, Iflt, Ifeq, Els, Fi, Lit, Mov, Add, Sub, Inc, Dec, Tab, Mul, Div}
 use Rattle.int_code.specs.declared.op.NumSource.{NumSource}
 use Rattle.int_code.specs.declared.op.NumSource.TheVariants.{V, N}
 use Rattle.int_code.specs.Shapes.{shape_of}
 use Rattle.byte_code.specs.declared.prim.Paced.{Paced}
+use Rattle.byte_code.specs.declared.prim.WordSource.{WordSource}
 use Rattle.byte_code.specs.declared.prim.Shape.TheVariants.{AtPoll}
 use Rattle.byte_code.specs.Table as table
-use Rattle.byte_code.proofs.Times.{times, times-cons}
 use Rattle.byte_lower.proofs.RouteLemmas.{along, HasNoNames}
 use Rattle.byte_lower.specs.Code.{booted, start_values}
-use Rattle.byte_lower.specs.Lists.{label_of, list_of, lists_of, top_of, labels_behind, unless_less, unless_equal, sum, difference, put_known, look_up, move, number, guard_of, put_where, joined}
+use Rattle.byte_lower.specs.Lists.{label_of, list_of, lists_of, top_of, labels_behind, unless_less, unless_equal, sum, difference, put_known, look_up, move, number, guard_of, put_where, joined, put, called, product, quotient}
+use Rattle.byte_routines.specs.declared.routines.TheConstants.{MULTIPLY, DIVIDE}
+use Rattle.byte_lower.specs.Layout.{own_cells}
 use Rattle.byte_lower.specs.declared.guard.Guard.{Guard}
 use Rattle.byte_lower.specs.declared.layout.Layout.{Layout}
 
@@ -30,6 +32,19 @@ every_on P (p ∷ ps) qs h g = (h.0, every_on P ps qs h.1 g)
 either : (P : Paced → Type 0) (b : Bool) (ps qs : List Paced) → Every P ps → Every P qs → Every P (if b then ps else qs)
 either P true ps qs h g = h
 either P false ps qs h g = g
+
+-- of a product and a quotient, of which the known ones are moves
+pub every_product : (P : Paced → Type 0) (o : Layout) (v : ℕ) (w u : NumSource) → ((n : WordSource) → P (put o v n)) →
+    Every P (called o MULTIPLY (own_cells o.plan.target).outcome v w u) → Every P (product o v w u)
+every_product P o v (N n) (N m) h g = (h _, tt)
+every_product P o v (N n) (V b) h g = g
+every_product P o v (V a) u h g = g
+
+pub every_quotient : (P : Paced → Type 0) (o : Layout) (v : ℕ) (w u : NumSource) → ((n : WordSource) → P (put o v n)) →
+    Every P (called o DIVIDE (own_cells o.plan.target).left v w u) → Every P (quotient o v w u)
+every_quotient P o v (N n) (N m) h g = (h _, tt)
+every_quotient P o v (N n) (V b) h g = g
+every_quotient P o v (V a) u h g = g
 
 -- each is begun once at most in a cycle
 abbrev pub TurnsOnce : Paced → Type 0
@@ -91,6 +106,8 @@ list_turns o (Lit v n) l top = (refl, tt)
 list_turns o (Mov v f) l top = (refl, tt)
 list_turns o (Add v w u) l top = sum_turns o v w u
 list_turns o (Sub v w u) l top = difference_turns o v w u
+list_turns o (Mul v w u) l top = every_product TurnsOnce o v w u (λ n. refl) (refl, (refl, (refl, (refl, tt))))
+list_turns o (Div v w u) l top = every_quotient TurnsOnce o v w u (λ n. refl) (refl, (refl, (refl, (refl, tt))))
 list_turns o (Inc v) l top = (refl, tt)
 list_turns o (Dec v) l top = (refl, tt)
 list_turns o (Tab v w values) l top = look_up_turns o v w values l
@@ -151,8 +168,3 @@ from_place P (q ∷ code) zero zero p h le e = let f : q ≡ p = cc in subst P f
 from_place P (q ∷ code) zero (suc i) p h le e = from_place P code zero i p h.1 (omega arith) e
 from_place P (q ∷ code) (suc n) zero p h le e = absurd (omega (arith, le))
 from_place P (q ∷ code) (suc n) (suc i) p h le e = from_place P code n i p h (omega (arith, le)) e
-
--- counts of places add up
-pub times_on : (i : ℕ) (xs ys : List ℕ) → times i (xs ++ ys) ≡ times i xs + times i ys
-times_on i [] ys = omega arith
-times_on i (x ∷ xs) ys = omega (arith, times-cons i x (xs ++ ys), times-cons i x xs, times_on i xs ys)

@@ -9,7 +9,7 @@ use Rattle.int_code.specs.Store as int
 use Rattle.int_code.specs.declared.op.BitDest as written
 use Rattle.int_code.specs.declared.op.BitDest.TheVariants as opdest
 use Rattle.int_code.specs.declared.op.IntOp.{IntOp}
-use Rattle.int_code.specs.declared.op.IntOp.TheVariants.{Set, Clr, Cpy, Not, Ifs, Ifc, Iflt, Ifeq, Els, Fi, Lit, Mov, Add, Sub, Inc, Dec, Tab}
+use Rattle.int_code.specs.declared.op.IntOp.TheVariants.{Set, Clr, Cpy, Not, Ifs, Ifc, Iflt, Ifeq, Els, Fi, Lit, Mov, Add, Sub, Inc, Dec, Tab, Mul, Div}
 use Rattle.byte_lower.specs.Code.{store_behind}
 use Rattle.byte_lower.specs.Lists.{is_built}
 
@@ -36,6 +36,8 @@ op_keeps r (Lit v n) t h = refl
 op_keeps r (Mov v from) t h = refl
 op_keeps r (Add v w u) t h = refl
 op_keeps r (Sub v w u) t h = refl
+op_keeps r (Mul v w u) t h = refl
+op_keeps r (Div v w u) t h = refl
 op_keeps r (Inc v) t h = refl
 op_keeps r (Dec v) t h = refl
 op_keeps r (Tab v w values) t h = number_only t v (value_at values (int.number_of t w))

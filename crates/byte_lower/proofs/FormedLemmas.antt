@@ -9,7 +9,7 @@ use Rattle.int_code.specs.declared.op.BitDest.TheVariants as opdest
 use Rattle.int_code.specs.declared.op.BitSource as read
 use Rattle.int_code.specs.declared.op.BitSource.TheVariants as opsource
 use Rattle.int_code.specs.declared.op.IntOp.{IntOp}
-use Rattle.int_code.specs.declared.op.IntOp.TheVariants.{Set, Clr, Cpy, Not, Ifs, Ifc, Iflt, Ifeq, Els, Fi, Lit, Mov, Add, Sub, Inc, Dec, Tab}
+use Rattle.int_code.specs.declared.op.IntOp.TheVariants.{Set, Clr, Cpy, Not, Ifs, Ifc, Iflt, Ifeq, Els, Fi, Lit, Mov, Add, Sub, Inc, Dec, Tab, Mul, Div}
 use Rattle.int_code.specs.declared.op.IntProgram.{IntProgram}
 use Rattle.int_code.specs.declared.op.NumSource.{NumSource}
 use Rattle.int_code.specs.declared.op.NumSource.TheVariants.{V, N}
@@ -59,6 +59,8 @@ module _ (o : Layout) (p : IntProgram) (h : HasPlaces o p) where
   in_room (Mov v from) built r = (variable v r.0, variable from r.1)
   in_room (Add v w u) built r = computed v w u r
   in_room (Sub v w u) built r = computed v w u r
+  in_room (Mul v w u) built r = computed v w u r
+  in_room (Div v w u) built r = computed v w u r
   in_room (Inc v) built r = variable v r
   in_room (Dec v) built r = variable v r
   in_room (Tab v w values) built r = (variable v r.0, number w r.1, r.2)

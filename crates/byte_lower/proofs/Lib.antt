@@ -4,6 +4,7 @@ pub mod TableLemmas
 pub mod RouteLemmas
 pub mod StoreLemmas
 pub mod GoLemmas
+pub mod CallLemmas
 pub mod LookUpLemmas
 pub mod StepLemmas
 pub mod WalkLemmas
@@ -12,6 +13,7 @@ pub mod CodeLemmas
 pub mod BootLemmas
 pub mod DeviceLemmas
 pub mod NameLemmas
+pub mod RoutineLemmas
 pub mod CycleLemmas
 pub mod ListLemmas
 pub mod PinLemmas

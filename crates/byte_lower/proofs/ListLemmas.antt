@@ -7,6 +7,7 @@ use Rattle.int_code.specs.WellFormed.{IsDest, IsSource, IsInRange}
 use Rattle.int_code.specs.declared.op.IntOp.{IntOp}
 use Rattle.byte_code.specs.declared.prim.Paced.{Paced}
 use Rattle.byte_lower.proofs.WalkLemmas.{guard_facts}
+use Rattle.byte_lower.specs.Code.{if_called}
 use Rattle.byte_lower.specs.Layout.{room_of}
 use Rattle.byte_lower.specs.Lists.{label_of, list_of, lists_of, top_of, labels_behind, guard_of, put_where, joined}
 use Rattle.byte_lower.specs.declared.guard.Guard.{Guard}
@@ -31,13 +32,24 @@ some_dropped [] k h = absurd (omega (arith, h))
 some_dropped (x ∷ ops) zero h = (x, ops, refl)
 some_dropped (x ∷ ops) (suc k) h = some_dropped ops k (omega (arith, h))
 
+pub none_called : (routine : ℕ → List Paced) (calls : ℕ) → (0 < calls → ⊥) → if_called routine calls ≡ []
+none_called routine zero h = refl
+none_called routine (suc calls) h = absurd (h (omega arith))
+
+pub some_called : (routine : ℕ → List Paced) (calls : ℕ) → 0 < calls → if_called routine calls ≡ routine calls
+some_called routine zero h = absurd (omega (arith, h))
+some_called routine (suc calls) h = refl
+
+next_number : (k : ℕ) → k + 1 + 5 ≡ suc (k + 5)
+next_number k = omega arith
+
 -- an operation that stands in an earlier list
 pub pass_step : (o : Layout) (ops : List IntOp) (k passed : ℕ) (labels : List ℕ) → k < length ops →
-    lists_of o passed (drop (k + 1) ops) (k + 1) labels ≡ lists_of o (suc passed) (drop k ops) k labels
+    lists_of o passed (drop (k + 1) ops) (k + 1 + 5) labels ≡ lists_of o (suc passed) (drop k ops) (k + 5) labels
 pass_step o ops k passed labels h =
     let d = some_dropped ops k h in
-    ap (λ xs. lists_of o passed xs (k + 1) labels) (dropped_next ops k d.0 d.1 d.2) ∙ ap (λ n. lists_of o passed d.1 n labels) (add-one k)
-    ∙ sym (ap (λ xs. lists_of o (suc passed) xs k labels) d.2)
+    ap (λ xs. lists_of o passed xs (k + 1 + 5) labels) (dropped_next ops k d.0 d.1 d.2) ∙ ap (λ n. lists_of o passed d.1 n labels) (next_number k)
+    ∙ sym (ap (λ xs. lists_of o (suc passed) xs (k + 5) labels) d.2)
 
 -- one that begins an if that is one primitive
 put_by : (o : Layout) (xs rest : List IntOp) (k : ℕ) (labels : List ℕ) (g : Guard) → guard_of xs ≡ Some g → (op : IntOp) → xs ≡ op ∷ rest →
@@ -50,30 +62,30 @@ put_by o xs rest k labels g e op f =
 
 pub put_step : (o : Layout) (ops : List IntOp) (k : ℕ) (labels : List ℕ) (g : Guard) (new old : List Paced) → k < length ops → guard_of (drop k ops) ≡ Some g →
     new ≡ old ++ put_where o g ∷ [] →
-    new ++ lists_of o 2 (drop (k + 1) ops) (k + 1) labels ≡ old ++ lists_of o 0 (drop k ops) k labels
+    new ++ lists_of o 2 (drop (k + 1) ops) (k + 1 + 5) labels ≡ old ++ lists_of o 0 (drop k ops) (k + 5) labels
 put_step o ops k labels g new old h e f =
     let d = some_dropped ops k h in
-    ap (λ n. n ++ lists_of o 2 (drop (k + 1) ops) (k + 1) labels) f ∙ append_assoc old (put_where o g ∷ []) (lists_of o 2 (drop (k + 1) ops) (k + 1) labels)
-    ∙ ap (λ xs. old ++ put_where o g ∷ lists_of o 2 xs (k + 1) labels) (dropped_next ops k d.0 d.1 d.2)
-    ∙ ap (λ n. old ++ put_where o g ∷ lists_of o 2 d.1 n labels) (add-one k)
-    ∙ ap (λ xs. old ++ xs) (sym (put_by o (drop k ops) d.1 k labels g e d.0 d.2))
+    ap (λ n. n ++ lists_of o 2 (drop (k + 1) ops) (k + 1 + 5) labels) f ∙ append_assoc old (put_where o g ∷ []) (lists_of o 2 (drop (k + 1) ops) (k + 1 + 5) labels)
+    ∙ ap (λ xs. old ++ put_where o g ∷ lists_of o 2 xs (k + 1 + 5) labels) (dropped_next ops k d.0 d.1 d.2)
+    ∙ ap (λ n. old ++ put_where o g ∷ lists_of o 2 d.1 n labels) (next_number k)
+    ∙ ap (λ xs. old ++ xs) (sym (put_by o (drop k ops) d.1 (k + 5) labels g e d.0 d.2))
 
 -- and one with a list of its own
 pub list_step : (o : Layout) (ops : List IntOp) (k : ℕ) (op : IntOp) (labels labels1 : List ℕ) (new old : List Paced) → slice_get ops k ≡ Some op →
     guard_of (drop k ops) ≡ None →
-    new ≡ old ++ list_of o op (k + 1) (top_of labels) → labels1 ≡ labels_behind (shape_of op) k labels →
-    new ++ lists_of o 0 (drop (k + 1) ops) (k + 1) labels1 ≡ old ++ lists_of o 0 (drop k ops) k labels
+    new ≡ old ++ list_of o op (k + 1 + 5) (top_of labels) → labels1 ≡ labels_behind (shape_of op) (k + 5) labels →
+    new ++ lists_of o 0 (drop (k + 1) ops) (k + 1 + 5) labels1 ≡ old ++ lists_of o 0 (drop k ops) (k + 5) labels
 list_step o ops k op labels labels1 new old at none e f =
     let is = dropped ops k op at in
     let rest = drop (suc k) ops in
-    let behind = labels_behind (shape_of op) k labels in
-    ap (λ n. n ++ lists_of o 0 (drop (k + 1) ops) (k + 1) labels1) e ∙ append_assoc old (list_of o op (k + 1) (top_of labels))
-    (lists_of o 0 (drop (k + 1) ops) (k + 1) labels1)
-    ∙ ap (λ xs. old ++ (list_of o op (k + 1) (top_of labels) ++ lists_of o 0 xs (k + 1) labels1)) (dropped_next ops k op rest is)
-    ∙ ap (λ ls. old ++ (list_of o op (k + 1) (top_of labels) ++ lists_of o 0 rest (k + 1) ls)) f
-    ∙ ap (λ n. old ++ (list_of o op n (top_of labels) ++ lists_of o 0 rest n behind)) (add-one k)
-    ∙ ap (λ xs. old ++ xs) (sym (ap (λ ys. lists_of o 0 ys k labels) is
-    ∙ ap (λ x. joined x (λ q. put_where o q ∷ lists_of o 2 rest (suc k) labels) (list_of o op (label_of k) (top_of labels) ++ lists_of o 0 rest (suc k)
+    let behind = labels_behind (shape_of op) (k + 5) labels in
+    ap (λ n. n ++ lists_of o 0 (drop (k + 1) ops) (k + 1 + 5) labels1) e ∙ append_assoc old (list_of o op (k + 1 + 5) (top_of labels))
+    (lists_of o 0 (drop (k + 1) ops) (k + 1 + 5) labels1)
+    ∙ ap (λ xs. old ++ (list_of o op (k + 1 + 5) (top_of labels) ++ lists_of o 0 xs (k + 1 + 5) labels1)) (dropped_next ops k op rest is)
+    ∙ ap (λ ls. old ++ (list_of o op (k + 1 + 5) (top_of labels) ++ lists_of o 0 rest (k + 1 + 5) ls)) f
+    ∙ ap (λ n. old ++ (list_of o op n (top_of labels) ++ lists_of o 0 rest n behind)) (next_number k)
+    ∙ ap (λ xs. old ++ xs) (sym (ap (λ ys. lists_of o 0 ys (k + 5) labels) is
+    ∙ ap (λ x. joined x (λ q. put_where o q ∷ lists_of o 2 rest (suc (k + 5)) labels) (list_of o op (label_of (k + 5)) (top_of labels) ++ lists_of o 0 rest (suc (k + 5))
     behind)) (ap guard_of (sym is) ∙ none)))
 
 -- the bits of such an if are in range

@@ -1,11 +1,11 @@
 -- The code of a program has and begins no more than the public list allows to its operations.
-use Rattle.std.proofs.Common.{◌≡◌, inl, inr, ℕ, suc, ◌+◌, ◌-◌, ◌*◌, ◌/◌, ◌<◌, ◌≤◌, Bool, true, false, List, [], ◌∷◌, ◌++◌, length, map, Option, Some, None, ℤ, pos, negsuc, refl, sym, ap, ap₂, subst, ◌∙◌, arith, append-nil}
+use Rattle.std.proofs.Common.{◌≡◌, inl, inr, ℕ, zero, suc, ◌+◌, ◌-◌, ◌*◌, ◌/◌, ◌<◌, ◌≤◌, Bool, true, false, cond, List, [], ◌∷◌, ◌++◌, length, map, Option, Some, None, ℤ, pos, negsuc, refl, sym, ap, ap₂, subst, ◌∙◌, arith, append-nil}
 use Rattle.std.proofs.lemmas.Bool.Decides.{nat_tests}
 use Rattle.std.proofs.lemmas.List.{length-map}
 use Rattle.std.proofs.lemmas.List.Elements.{All-head, All-tail}
 use Rattle.std.proofs.lemmas.List.Sums.{sum_by-append, sum_by-cons}
 use Rattle.std.proofs.lemmas.List.Concat.{flat_map-append}
-use Rattle.std.specs.Prelude.{◌&&◌, ◌==◌, nat_le, nat_lt, if◌then◌else◌, int_lt, All}
+use Rattle.std.specs.Prelude.{◌&&◌, ◌==◌, nat_le, nat_lt, if◌then◌else◌, int_lt, count_by, All}
 use Rattle.std.specs.List.{flat_map, sum_by}
 use Rattle.std.specs.Ordering.{int_eq}
 use Rattle.chip_tables.specs.Memory.{ram_size}
@@ -25,7 +25,7 @@ use Rattle.int_code.specs.declared.op.BitDest.TheVariants as opdest
 use Rattle.int_code.specs.declared.op.BitSource as read
 use Rattle.int_code.specs.declared.op.BitSource.TheVariants as opsource
 use Rattle.int_code.specs.declared.op.IntOp.{IntOp}
-use Rattle.int_code.specs.declared.op.IntOp.TheVariants.{Set, Clr, Cpy, Not, Ifs, Ifc, Iflt, Ifeq, Els, Fi, Lit, Mov, Add, Sub, Inc, Dec, Tab}
+use Rattle.int_code.specs.declared.op.IntOp.TheVariants.{Set, Clr, Cpy, Not, Ifs, Ifc, Iflt, Ifeq, Els, Fi, Lit, Mov, Add, Sub, Mul, Div, Inc, Dec, Tab}
 use Rattle.int_code.specs.declared.op.IntProgram.{IntProgram}
 use Rattle.int_code.specs.declared.op.NumSource.{NumSource}
 use Rattle.int_code.specs.declared.op.NumSource.TheVariants.{V, N}
@@ -33,16 +33,20 @@ use Rattle.byte_code.specs.Admitted.{is_scratch}
 use Rattle.byte_code.specs.Kinds as prim
 use Rattle.byte_code.specs.Kinds.{PrimKind, IsWithin, boot_kinds, turn_kinds, reads_scratch, writes_scratch, repeated}
 use Rattle.byte_code.specs.Lowered as list
-use Rattle.byte_code.specs.Lowered.{Entry, Operation, AreChosen, IsListed, IsOneOf, entries, plain, whole}
+use Rattle.byte_code.specs.Lowered.{Entry, Operation, Routine, AreChosen, IsListed, IsOneOf, entries, plain, whole}
 use Rattle.byte_code.specs.declared.prim.BytePrim.TheVariants as bytes
 use Rattle.byte_code.specs.declared.prim.Paced.{Paced}
+use Rattle.std.proofs.Math.Nat.{suc-mul}
+use Rattle.chip_tables.specs.declared.scratch.Scratch.{Scratch}
+use Rattle.byte_routines.specs.Routines.{multiply, divide}
 use Rattle.byte_lower.proofs.AdmitLemmas.{is_wire_scratch}
 use Rattle.byte_lower.proofs.ListLemmas.{guard_ranges}
+use Rattle.byte_lower.proofs.NameLemmas.{count_more}
 use Rattle.byte_lower.proofs.PlaceLemmas.{BitView, kept, wired, bit_view, IsIn, found_byte}
-use Rattle.byte_lower.specs.Code.{CanPlace, booted, start_values, code_of}
-use Rattle.byte_lower.specs.Layout.{bit_cell, dest_of, source_of, room_of}
-use Rattle.byte_lower.specs.Listed.{operation_of, operations, starts_in}
-use Rattle.byte_lower.specs.Lists.{is_built, label_of, list_of, lists_of, top_of, labels_behind, unless_less, unless_equal, sum, difference, move, number, guard_of, guard_by, look_up, put_known, put_where, joined}
+use Rattle.byte_lower.specs.Code.{CanPlace, booted, start_values, if_called, routines_of, code_of}
+use Rattle.byte_lower.specs.Layout.{own_cells, bit_cell, dest_of, source_of, room_of}
+use Rattle.byte_lower.specs.Listed.{operation_of, operations, routine_if, routines_in, starts_in}
+use Rattle.byte_lower.specs.Lists.{is_built, label_of, list_of, lists_of, top_of, labels_behind, unless_less, unless_equal, sum, difference, called, product, quotient, calls_product, calls_quotient, move, number, guard_of, guard_by, look_up, put_known, put_where, joined}
 use Rattle.byte_lower.specs.declared.guard.Guard.{Guard}
 use Rattle.byte_lower.specs.declared.layout.Layout.{Layout}
 
@@ -110,6 +114,24 @@ kinds_plain wires x ops e = refl
 sums_on : (f : Paced → List PrimKind) (cost : PrimKind → ℕ) (ps qs : List Paced) →
     sum_by cost (flat_map f (ps ++ qs)) ≡ sum_by cost (flat_map f ps) + sum_by cost (flat_map f qs)
 sums_on f cost ps qs = ap (sum_by cost) (flat_map-append f ps qs) ∙ sum_by-append cost (flat_map f ps) (flat_map f qs)
+
+-- a number so often
+abbrev many : ℕ → ℕ → ℕ
+many zero x = 0
+many (suc n) x = x + many n x
+
+many_on : (b : Bool) (n x : ℕ) → many (cond b 1 0 + n) x ≡ many (cond b 1 0) x + many n x
+many_on true n x = ap (λ k. many k x) (one_more n) ∙ more x (many n x)
+  where
+    one_more : (n : ℕ) → 1 + n ≡ suc n
+    one_more n = omega arith
+
+    more : (x m : ℕ) → x + m ≡ x + 0 + m
+    more x m = omega arith
+many_on false n x = ap (λ k. many k x) (none_more n) ∙ sym (none_more (many n x))
+  where
+    none_more : (n : ℕ) → 0 + n ≡ n
+    none_more n = omega arith
 
 module _ (o : Layout) (c : IsChip o.plan.target) (room : ram_need o.plan.sizes ≤ ram_size o.plan.target) where
   abbrev Kept : ℕ
@@ -249,6 +271,101 @@ module _ (o : Layout) (c : IsChip o.plan.target) (room : ram_need o.plan.sizes �
   looked : (v : ℕ) (w : NumSource) (values : List ℤ) (l : ℕ) → Fits (list.Tab (length values)) (look_up o v w values l)
   looked v w values l = fits _ (plain (list.tab_code (length values))) _ (inl refl) (looked_within v w values l)
 
+  -- what calls of a routine begin, so many of them
+  abbrev Begun : (PrimKind → ℕ) → Routine → ℕ
+  Begun cost r = sum_by cost (list.call_turns r)
+
+  abbrev Owed : (PrimKind → ℕ) → List IntOp → ℕ
+  Owed cost ops = many (count_by calls_product ops) (Begun cost list.Multiply) + many (count_by calls_quotient ops) (Begun cost list.Divide)
+
+  abbrev OwedBy : (PrimKind → ℕ) → IntOp → ℕ
+  OwedBy cost x = many (cond (calls_product x) 1 0) (Begun cost list.Multiply) + many (cond (calls_quotient x) 1 0) (Begun cost list.Divide)
+
+  owed_more : (cost : PrimKind → ℕ) (x : IntOp) (ops : List IntOp) → Owed cost (x ∷ ops) ≡ OwedBy cost x + Owed cost ops
+  owed_more cost x ops =
+      let a = ap (λ n. many n (Begun cost list.Multiply)) (count_more calls_product x ops)
+      ∙ many_on (calls_product x) (count_by calls_product ops) (Begun cost list.Multiply) in
+      let b = ap (λ n. many n (Begun cost list.Divide)) (count_more calls_quotient x ops)
+      ∙ many_on (calls_quotient x) (count_by calls_quotient ops) (Begun cost list.Divide) in omega (arith, a, b)
+
+  -- an operation's list, and what is begun by the calls in it
+  record Owing (x : IntOp) (ps : List Paced) : Type 0 where
+    entry : Entry
+    one : IsOneOf entry (entries (operation_of (op.kind_of Kept x)))
+    code : (cost : PrimKind → ℕ) → Has cost ps ≤ sum_by cost entry.code
+    boot : (cost : PrimKind → ℕ) → Boots cost ps ≡ 0
+    turns : (cost : PrimKind → ℕ) → Turns cost ps + OwedBy cost x ≤ sum_by cost entry.turns
+
+  owing : (x : IntOp) (ps : List Paced) → ((cost : PrimKind → ℕ) → OwedBy cost x ≡ 0) → Fits (operation_of (op.kind_of Kept x)) ps → Owing x ps
+  owing x ps none h = record {
+    entry = h.entry;
+    one = h.one;
+    code = h.within.code;
+    boot = h.within.boot;
+    turns = λ cost. let a = h.within.turns cost in let b = none cost in omega (arith, a, b);
+  }
+
+  abbrev CallEntry : Routine → Entry
+  CallEntry r = list.calling (r ∷ []) (prim.Move ∷ prim.Move ∷ prim.Call ∷ prim.Move ∷ [])
+
+  move_few : (cost : PrimKind → ℕ) (r : Routine) → cost prim.Move ≤ sum_by cost (CallEntry r).turns
+  move_few cost r =
+      let a = sum_by-append cost (prim.Move ∷ prim.Move ∷ prim.Call ∷ prim.Move ∷ []) (flat_map list.call_turns (r ∷ [])) in
+      let b = sum_by-cons cost prim.Move (prim.Move ∷ prim.Call ∷ prim.Move ∷ []) in omega (arith, a, b)
+
+  called_turns : (cost : PrimKind → ℕ) (r : Routine) →
+      sum_by cost (CallEntry r).turns ≡ cost prim.Move + (cost prim.Move + (cost prim.Call + cost prim.Move)) + Begun cost r
+  called_turns cost r =
+      let a = sum_by-append cost (prim.Move ∷ prim.Move ∷ prim.Call ∷ prim.Move ∷ []) (flat_map list.call_turns (r ∷ [])) in
+      let b = ap (sum_by cost) (append-nil (list.call_turns r)) in
+      let d = sum_by-cons cost prim.Move (prim.Move ∷ prim.Call ∷ prim.Move ∷ []) in
+      let e = sum_by-cons cost prim.Move (prim.Call ∷ prim.Move ∷ []) in
+      let f = sum_by-cons cost prim.Call (prim.Move ∷ []) in
+      let g = sum_by-cons cost prim.Move [] in omega (arith, a, b, d, e, f, g)
+
+  known_owing : (x : IntOp) (r : Routine) (p : Paced) → IsOneOf (CallEntry r) (entries (operation_of (op.kind_of Kept x))) →
+      ((cost : PrimKind → ℕ) → OwedBy cost x ≡ 0) → Within (plain (prim.Move ∷ [])) (p ∷ []) → Owing x (p ∷ [])
+  known_owing x r p one none h = record {
+    entry = CallEntry r;
+    one = one;
+    code = λ cost. let a = h.code cost in omega (arith, a);
+    boot = h.boot;
+    turns = λ cost. let a = h.turns cost in let b = none cost in let d = move_few cost r in omega (arith, a, b, d);
+  }
+
+  call_owing : (x : IntOp) (r : Routine) (label result v : ℕ) (w u : NumSource) → IsOneOf (CallEntry r) (entries (operation_of (op.kind_of Kept x))) →
+      ((cost : PrimKind → ℕ) → OwedBy cost x ≡ Begun cost r) → Owing x (called o label result v w u)
+  call_owing x r label result v w u one owes = record {
+    entry = CallEntry r;
+    one = one;
+    code = λ cost. omega arith;
+    boot = λ cost. refl;
+    turns = λ cost. let a = called_turns cost r in let b = owes cost in omega (arith, a, b);
+  }
+
+  none_first : (m : ℕ) → m + 0 + 0 ≡ m
+  none_first m = omega arith
+
+  none_last : (m : ℕ) → 0 + (m + 0) ≡ m
+  none_last m = omega arith
+
+  products : (v : ℕ) (w u : NumSource) → Owing (Mul v w u) (product o v w u)
+  products v (N n) (N m) = known_owing (Mul v (N n) (N m)) list.Multiply _ (inl refl) (λ cost. refl) (one_kind _ _ _ refl refl refl refl)
+  products v (N n) (V b) = call_owing (Mul v (N n) (V b)) list.Multiply _ _ v (N n) (V b) (inl refl) (λ cost. none_first (Begun cost list.Multiply))
+  products v (V a) u = call_owing (Mul v (V a) u) list.Multiply _ _ v (V a) u (inl refl) (λ cost. none_first (Begun cost list.Multiply))
+
+  quotients : (v : ℕ) (w u : NumSource) → Owing (Div v w u) (quotient o v w u)
+  quotients v (N n) (N m) = known_owing (Div v (N n) (N m)) list.Divide _ (inl refl) (λ cost. refl) (one_kind _ _ _ refl refl refl refl)
+  quotients v (N n) (V b) = call_owing (Div v (N n) (V b)) list.Divide _ _ v (N n) (V b) (inl refl) (λ cost. none_last (Begun cost list.Divide))
+  quotients v (V a) u = call_owing (Div v (V a) u) list.Divide _ _ v (V a) u (inl refl) (λ cost. none_last (Begun cost list.Divide))
+
+  settled : (x : IntOp) (ps : List Paced) → Owing x ps → Fits (operation_of (op.kind_of Kept x)) ps
+  settled x ps h = record {
+    entry = h.entry;
+    one = h.one;
+    within = record { code = h.code; boot = h.boot; turns = λ cost. let a = h.turns cost in omega (arith, a) };
+  }
+
   list_fits : (x : IntOp) (l top : ℕ) → is_built x ≡ true → IsInRange (room_of o) x → Fits (operation_of (op.kind_of Kept x)) (list_of o x l top)
   list_fits (Set b) l top built h = fits _ (plain (prim.PutBit (is_wire Kept b) ∷ [])) _ (inl refl) (one_kind _ _ _ refl refl refl (ap prim.PutBit (dest b h)))
   list_fits (Clr b) l top built h = fits _ (plain (prim.PutBit (is_wire Kept b) ∷ [])) _ (inl refl) (one_kind _ _ _ refl refl refl (ap prim.PutBit (dest b h)))
@@ -269,6 +386,8 @@ module _ (o : Layout) (c : IsChip o.plan.target) (room : ram_need o.plan.sizes �
   list_fits (Inc v) l top built h = fits _ (plain (prim.Increment ∷ [])) _ (inl refl) (one_kind _ _ _ refl refl refl refl)
   list_fits (Dec v) l top built h = fits _ (plain (prim.Decrement ∷ [])) _ (inl refl) (one_kind _ _ _ refl refl refl refl)
   list_fits (Tab v w values) l top built h = looked v w values l
+  list_fits (Mul v w u) l top built h = settled (Mul v w u) (product o v w u) (products v w u)
+  list_fits (Div v w u) l top built h = settled (Div v w u) (quotient o v w u) (quotients v w u)
   list_fits x l top built h = absurd (cc)
 
   guard_fits : (g : Guard) → IsSource (room_of o) g.from × IsDest (room_of o) g.to →
@@ -276,16 +395,45 @@ module _ (o : Layout) (c : IsChip o.plan.target) (room : ram_need o.plan.sizes �
   guard_fits g h = fits _ (plain (prim.PutBitIf (reads_wire Kept g.from) (is_wire Kept g.to) ∷ [])) _ (inl refl)
       (one_kind _ _ _ refl refl refl (ap₂ prim.PutBitIf (source g.from h.0) (dest g.to h.1)))
 
+  list_owing : (x : IntOp) (l top : ℕ) → is_built x ≡ true → IsInRange (room_of o) x → Owing x (list_of o x l top)
+  list_owing (Mul v w u) l top built h = products v w u
+  list_owing (Div v w u) l top built h = quotients v w u
+  list_owing x l top built h = owing x (list_of o x l top) (λ cost. refl) (list_fits x l top built h)
+
   -- the same of many operations
-  record AllFit (ops : List Operation) (ps : List Paced) : Type 0 where
+  record AllFit (ops : List Operation) (of : List IntOp) (ps : List Paced) : Type 0 where
     choice : List Entry
     chosen : AreChosen ops choice
     code : (cost : PrimKind → ℕ) → Has cost ps ≤ sum_by cost (flat_map (λ e. e.code) choice)
     boot : (cost : PrimKind → ℕ) → Boots cost ps ≡ 0
-    turns : (cost : PrimKind → ℕ) → Turns cost ps ≤ sum_by cost (flat_map (λ e. e.turns) choice)
+    turns : (cost : PrimKind → ℕ) → Turns cost ps + Owed cost of ≤ sum_by cost (flat_map (λ e. e.turns) choice)
 
-  fit_on : (to : Operation) (ops : List Operation) (ps qs : List Paced) → Fits to ps → AllFit ops qs → AllFit (to ∷ ops) (ps ++ qs)
-  fit_on to ops ps qs h g = record {
+  fit_on : (x : IntOp) (ops : List Operation) (of : List IntOp) (ps qs : List Paced) → Owing x ps → AllFit ops of qs →
+      AllFit (operation_of (op.kind_of Kept x) ∷ ops) (x ∷ of) (ps ++ qs)
+  fit_on x ops of ps qs h g = record {
+    choice = h.entry ∷ g.choice;
+    chosen = (h.one, g.chosen);
+    code = λ cost.
+        let a = h.code cost in
+        let b = g.code cost in
+        let d = sums_on (λ p. prim.kind_of Chip p.prim) cost ps qs in
+        let e = sum_by-append cost h.entry.code (flat_map (λ x. x.code) g.choice) in omega (arith, a, b, d, e);
+    boot = λ cost.
+        let a = h.boot cost in
+        let b = g.boot cost in
+        let d = sums_on (λ p. repeated p.boot (prim.kind_of Chip p.prim)) cost ps qs in omega (arith, a, b, d);
+    turns = λ cost.
+        let a = h.turns cost in
+        let b = g.turns cost in
+        let d = sums_on (λ p. repeated p.turns (prim.kind_of Chip p.prim)) cost ps qs in
+        let f = owed_more cost x of in
+        let e = sum_by-append cost h.entry.turns (flat_map (λ x. x.turns) g.choice) in omega (arith, a, b, d, e, f);
+  }
+
+  -- in front of them an if that is one primitive, which calls nothing
+  guard_more : (to : Operation) (ops : List Operation) (of more : List IntOp) (ps qs : List Paced) → Fits to ps → AllFit ops of qs →
+      ((cost : PrimKind → ℕ) → Owed cost more ≡ Owed cost of) → AllFit (to ∷ ops) more (ps ++ qs)
+  guard_more to ops of more ps qs h g same = record {
     choice = h.entry ∷ g.choice;
     chosen = (h.one, g.chosen);
     code = λ cost.
@@ -301,39 +449,54 @@ module _ (o : Layout) (c : IsChip o.plan.target) (room : ram_need o.plan.sizes �
         let a = h.within.turns cost in
         let b = g.turns cost in
         let d = sums_on (λ p. repeated p.turns (prim.kind_of Chip p.prim)) cost ps qs in
-        let e = sum_by-append cost h.entry.turns (flat_map (λ x. x.turns) g.choice) in omega (arith, a, b, d, e);
+        let f = same cost in
+        let e = sum_by-append cost h.entry.turns (flat_map (λ x. x.turns) g.choice) in omega (arith, a, b, d, e, f);
   }
+
+  nothing_owed : (cost : PrimKind → ℕ) (x y z : IntOp) (ops : List IntOp) → OwedBy cost x ≡ 0 → OwedBy cost y ≡ 0 → OwedBy cost z ≡ 0 →
+      Owed cost (x ∷ y ∷ z ∷ ops) ≡ Owed cost ops
+  nothing_owed cost x y z ops a b d =
+      let e = owed_more cost x (y ∷ z ∷ ops) in
+      let f = owed_more cost y (z ∷ ops) in
+      let g = owed_more cost z ops in omega (arith, a, b, d, e, f, g)
+
+  guard_owes : (x y z : IntOp) (ops : List IntOp) (g : Guard) → guard_by x y z ≡ Some g → (cost : PrimKind → ℕ) → Owed cost (x ∷ y ∷ z ∷ ops) ≡ Owed cost ops
+  guard_owes (Ifs s) (Set b) Fi ops g e cost = nothing_owed cost (Ifs s) (Set b) Fi ops refl refl refl
+  guard_owes (Ifs s) (Clr b) Fi ops g e cost = nothing_owed cost (Ifs s) (Clr b) Fi ops refl refl refl
+  guard_owes (Ifc s) (Set b) Fi ops g e cost = nothing_owed cost (Ifc s) (Set b) Fi ops refl refl refl
+  guard_owes (Ifc s) (Clr b) Fi ops g e cost = nothing_owed cost (Ifc s) (Clr b) Fi ops refl refl refl
+  guard_owes x y z ops g e cost = absurd (cc)
 
   abbrev Ops : List IntOp → List Operation
   Ops ops = map operation_of (kinds Kept ops)
 
   -- one that is no such if
   plain_on : (x : IntOp) (ops : List IntOp) (k : ℕ) (labels : List ℕ) → guard_of (x ∷ ops) ≡ None → is_built x ≡ true → IsInRange (room_of o) x →
-      AllFit (Ops ops) (lists_of o 0 ops (suc k) (labels_behind (shape_of x) k labels)) → AllFit (Ops (x ∷ ops)) (lists_of o 0 (x ∷ ops) k labels)
+      AllFit (Ops ops) ops (lists_of o 0 ops (suc k) (labels_behind (shape_of x) k labels)) → AllFit (Ops (x ∷ ops)) (x ∷ ops) (lists_of o 0 (x ∷ ops) k labels)
   plain_on x ops k labels e built h behind =
       let own = list_of o x (label_of k) (top_of labels) in
       let later = lists_of o 0 ops (suc k) (labels_behind (shape_of x) k labels) in
-      let all = fit_on (operation_of (op.kind_of Kept x)) (Ops ops) own later (list_fits x (label_of k) (top_of labels) built h) behind in
-      subst (λ ks. AllFit (map operation_of ks) (lists_of o 0 (x ∷ ops) k labels)) (sym (kinds_plain Kept x ops e))
-      (subst (λ q. AllFit (operation_of (op.kind_of Kept x) ∷ Ops ops) (joined q (λ g. put_where o g ∷ lists_of o 2 ops (suc k) labels) (own ++ later)))
+      let all = fit_on x (Ops ops) ops own later (list_owing x (label_of k) (top_of labels) built h) behind in
+      subst (λ ks. AllFit (map operation_of ks) (x ∷ ops) (lists_of o 0 (x ∷ ops) k labels)) (sym (kinds_plain Kept x ops e))
+      (subst (λ q. AllFit (operation_of (op.kind_of Kept x) ∷ Ops ops) (x ∷ ops) (joined q (λ g. put_where o g ∷ lists_of o 2 ops (suc k) labels) (own ++ later)))
       (sym e) all)
 
   guard_on : (x y z : IntOp) (ops : List IntOp) (k : ℕ) (labels : List ℕ) (g : Guard) → guard_by x y z ≡ Some g →
-      IsSource (room_of o) g.from × IsDest (room_of o) g.to → AllFit (Ops ops) (lists_of o 0 ops (suc (suc (suc k))) labels) →
-      AllFit (Ops (x ∷ y ∷ z ∷ ops)) (lists_of o 0 (x ∷ y ∷ z ∷ ops) k labels)
+      IsSource (room_of o) g.from × IsDest (room_of o) g.to → AllFit (Ops ops) ops (lists_of o 0 ops (suc (suc (suc k))) labels) →
+      AllFit (Ops (x ∷ y ∷ z ∷ ops)) (x ∷ y ∷ z ∷ ops) (lists_of o 0 (x ∷ y ∷ z ∷ ops) k labels)
   guard_on x y z ops k labels g e places behind =
       let own = list_of o x (label_of k) (top_of labels) in
       let later = lists_of o 0 (y ∷ z ∷ ops) (suc k) (labels_behind (shape_of x) k labels) in
-      let all = fit_on (list.Guarded (reads_wire Kept g.from) (is_wire Kept g.to)) (Ops ops) (put_where o g ∷ [])
-      (lists_of o 0 ops (suc (suc (suc k))) labels) (guard_fits g places) behind in
-      subst (λ ks. AllFit (map operation_of ks) (lists_of o 0 (x ∷ y ∷ z ∷ ops) k labels)) (sym (kinds_guarded Kept x y z ops g e))
-      (subst (λ q. AllFit (list.Guarded (reads_wire Kept g.from) (is_wire Kept g.to) ∷ Ops ops)
+      let all = guard_more (list.Guarded (reads_wire Kept g.from) (is_wire Kept g.to)) (Ops ops) ops (x ∷ y ∷ z ∷ ops) (put_where o g ∷ [])
+      (lists_of o 0 ops (suc (suc (suc k))) labels) (guard_fits g places) behind (guard_owes x y z ops g e) in
+      subst (λ ks. AllFit (map operation_of ks) (x ∷ y ∷ z ∷ ops) (lists_of o 0 (x ∷ y ∷ z ∷ ops) k labels)) (sym (kinds_guarded Kept x y z ops g e))
+      (subst (λ q. AllFit (list.Guarded (reads_wire Kept g.from) (is_wire Kept g.to) ∷ Ops ops) (x ∷ y ∷ z ∷ ops)
       (joined q (λ g. put_where o g ∷ lists_of o 2 (y ∷ z ∷ ops) (suc k) labels) (own ++ later))) (sym e) all)
 
   either_on : (x y z : IntOp) (ops : List IntOp) (k : ℕ) (labels : List ℕ) (q : Option Guard) → guard_by x y z ≡ q → is_built x ≡ true →
-      All (IsInRange (room_of o)) (x ∷ y ∷ z ∷ ops) → AllFit (Ops ops) (lists_of o 0 ops (suc (suc (suc k))) labels) →
-      AllFit (Ops (y ∷ z ∷ ops)) (lists_of o 0 (y ∷ z ∷ ops) (suc k) (labels_behind (shape_of x) k labels)) →
-      AllFit (Ops (x ∷ y ∷ z ∷ ops)) (lists_of o 0 (x ∷ y ∷ z ∷ ops) k labels)
+      All (IsInRange (room_of o)) (x ∷ y ∷ z ∷ ops) → AllFit (Ops ops) ops (lists_of o 0 ops (suc (suc (suc k))) labels) →
+      AllFit (Ops (y ∷ z ∷ ops)) (y ∷ z ∷ ops) (lists_of o 0 (y ∷ z ∷ ops) (suc k) (labels_behind (shape_of x) k labels)) →
+      AllFit (Ops (x ∷ y ∷ z ∷ ops)) (x ∷ y ∷ z ∷ ops) (lists_of o 0 (x ∷ y ∷ z ∷ ops) k labels)
   either_on x y z ops k labels (Some g) e built range past behind =
       guard_on x y z ops k labels g e (guard_ranges o (x ∷ y ∷ z ∷ ops) g e range) past
   either_on x y z ops k labels None e built range past behind =
@@ -342,7 +505,7 @@ module _ (o : Layout) (c : IsChip o.plan.target) (room : ram_need o.plan.sizes �
   abbrev IsBuilt : IntOp → Type 0
   IsBuilt x = is_built x ≡ true
 
-  lists_fit : (ops : List IntOp) (k : ℕ) (labels : List ℕ) → All IsBuilt ops → All (IsInRange (room_of o)) ops → AllFit (Ops ops) (lists_of o 0 ops k labels)
+  lists_fit : (ops : List IntOp) (k : ℕ) (labels : List ℕ) → All IsBuilt ops → All (IsInRange (room_of o)) ops → AllFit (Ops ops) ops (lists_of o 0 ops k labels)
   lists_fit [] k labels built range =
       record { choice = []; chosen = tt; code = λ cost. omega arith; boot = λ cost. refl; turns = λ cost. omega arith }
   lists_fit (x ∷ []) k labels built range = plain_on x [] k labels refl (All-head IsBuilt x [] built) (All-head (IsInRange (room_of o)) x [] range)
@@ -401,76 +564,196 @@ module _ (o : Layout) (c : IsChip o.plan.target) (room : ram_need o.plan.sizes �
       let f = sum_by-cons cost a (b ∷ xs) in
       let g = sum_by-cons cost b xs in omega (arith, e, f, g)
 
-  abbrev JumpBack : List Paced
-  JumpBack = record { prim = bytes.Jump 0; boot = 0; turns = 1 } ∷ []
+  -- a kind that is begun so often
+  abbrev Sets : ℕ → PrimKind → (PrimKind → ℕ) → ℕ
+  Sets n k cost = sum_by cost (repeated n (k ∷ []))
 
-  abbrev Behind : List Paced → List Paced
-  Behind code = record { prim = bytes.Label 0; boot = 1; turns = 1 } ∷ record { prim = bytes.CyclePoll 0; boot = 1; turns = 1 } ∷ (code ++ JumpBack)
+  one_set : (cost : PrimKind → ℕ) (k : PrimKind) (n : ℕ) → Sets (suc n) k cost ≡ cost k + Sets n k cost
+  one_set cost k n = sum_by-cons cost k (repeated n (k ∷ []))
 
-  has_all : (cost : PrimKind → ℕ) (starts code : List Paced) → Has cost (booted (bytes.Start (ram_need o.plan.sizes)) ∷ (starts ++ Behind code))
-      ≡ cost prim.Start + (Has cost starts + (cost prim.CyclePoll + (Has cost code + cost prim.Jump)))
-  has_all cost starts code =
-      let a = sum_by-cons cost prim.Start (prim.kinds Chip (starts ++ Behind code)) in
-      let b = sums_on (λ p. prim.kind_of Chip p.prim) cost starts (Behind code) in
-      let d = sum_by-cons cost prim.CyclePoll (prim.kinds Chip (code ++ JumpBack)) in
-      let e = sums_on (λ p. prim.kind_of Chip p.prim) cost code JumpBack in
-      let f : Has cost JumpBack ≡ cost prim.Jump + 0 = sum_by-cons cost prim.Jump [] in
-      let g : Has cost (Behind code) ≡ cost prim.CyclePoll + Has cost (code ++ JumpBack) = d in
+  sets_on : (cost : PrimKind → ℕ) (k : PrimKind) (a b : ℕ) → Sets (a + b) k cost ≡ Sets a k cost + Sets b k cost
+  sets_on cost k zero b = ap (λ n. Sets n k cost) (none_more b) ∙ sym (none_more (Sets b k cost))
+    where
+      none_more : (n : ℕ) → 0 + n ≡ n
+      none_more n = omega arith
+  sets_on cost k (suc a) b =
+      let d = ap (λ n. Sets n k cost) (one_more a b) in
+      let e = one_set cost k (a + b) in
+      let f = one_set cost k a in
+      let g = sets_on cost k a b in omega (arith, d, e, f, g)
+    where
+      one_more : (a b : ℕ) → suc a + b ≡ suc (a + b)
+      one_more a b = omega arith
+
+  sets_more : (cost : PrimKind → ℕ) (k : PrimKind) (n m : ℕ) → Sets (suc n * m) k cost ≡ Sets (n * m) k cost + Sets m k cost
+  sets_more cost k n m = ap (λ x. Sets x k cost) (suc-mul n m) ∙ sets_on cost k (n * m) m
+
+  no_kind : (cost : PrimKind → ℕ) (n : ℕ) → sum_by cost (repeated {X = PrimKind} n []) ≡ 0
+  no_kind cost zero = refl
+  no_kind cost (suc n) = no_kind cost n
+
+  -- the turns of primitives, one after another
+  abbrev Total : (PrimKind → ℕ) → List Paced → ℕ
+  Total cost [] = 0
+  Total cost (p ∷ ps) = sum_by cost (repeated p.turns (prim.kind_of Chip p.prim)) + Total cost ps
+
+  total : (cost : PrimKind → ℕ) (ps : List Paced) → Turns cost ps ≡ Total cost ps
+  total cost [] = refl
+  total cost (p ∷ ps) =
+      sum_by-append cost (repeated p.turns (prim.kind_of Chip p.prim)) (turn_kinds Chip ps)
+      ∙ ap (λ n. sum_by cost (repeated p.turns (prim.kind_of Chip p.prim)) + n) (total cost ps)
+
+  multiply_total : (cost : PrimKind → ℕ) (s : Scratch) (n : ℕ) → Total cost (multiply s n) ≡ many n (Begun cost list.Multiply)
+  multiply_total cost s zero = refl
+  multiply_total cost s (suc n) =
+      let a = one_set cost prim.Move n in
+      let b = one_set cost prim.PutByte n in
+      let d = one_set cost prim.Return n in
+      let e = sets_more cost prim.MultiplyStep n 8 in
+      let f = sets_more cost prim.Loop n 8 in
+      let g : Begun cost list.Multiply ≡ cost prim.Move + cost prim.PutByte + Sets 8 prim.MultiplyStep cost + Sets 8 prim.Loop cost + cost prim.Return = omega arith in
+      let h = multiply_total cost s n in
+      let i = no_kind cost n in
+      let j = no_kind cost (n * 8) in
+      let k = no_kind cost (suc n) in
+      let l = no_kind cost (suc n * 8) in omega (arith, a, b, d, e, f, g, h, i, j, k, l)
+
+  divide_total : (cost : PrimKind → ℕ) (s : Scratch) (n : ℕ) → Total cost (divide s n) ≡ many n (Begun cost list.Divide)
+  divide_total cost s zero = refl
+  divide_total cost s (suc n) =
+      let a = one_set cost prim.Move n in
+      let b = one_set cost prim.PutByte n in
+      let d = one_set cost prim.Return n in
+      let m = one_set cost prim.Xor n in
+      let o = one_set cost prim.NegateIf n in
+      let p = one_set cost prim.Equal n in
+      let q = one_set cost prim.JumpOnFlag n in
+      let e = sets_more cost prim.DivideStep n 16 in
+      let f = sets_more cost prim.Loop n 16 in
+      let g : Begun cost list.Divide ≡ cost prim.Xor + cost prim.NegateIf + cost prim.NegateIf + cost prim.Move + cost prim.PutByte + cost prim.Equal
+      + cost prim.JumpOnFlag + Sets 16 prim.DivideStep cost + Sets 16 prim.Loop cost + cost prim.NegateIf + cost prim.Return + cost prim.Move
+      + cost prim.Return = omega arith in
+      let h = divide_total cost s n in
+      let i = no_kind cost n in
+      let j = no_kind cost (n * 16) in
+      let k = no_kind cost (suc n) in
+      let l = no_kind cost (suc n * 16) in omega (arith, a, b, d, m, o, p, q, e, f, g, h, i, j, k, l)
+
+  -- the routines that are called have what the list has for them, and begin what their calls owe
+  record Called (rs : List Routine) (ps : List Paced) (n d : ℕ) : Type 0 where
+    code : (cost : PrimKind → ℕ) → Has cost ps ≡ sum_by cost (flat_map (λ e. e.code) (map list.routine_entry rs))
+    boot : (cost : PrimKind → ℕ) → Boots cost ps ≡ 0
+    turns : (cost : PrimKind → ℕ) → Turns cost ps ≡ many n (Begun cost list.Multiply) + many d (Begun cost list.Divide)
+
+  routines_fit : (s : Scratch) (n d : ℕ) →
+      Called (routine_if n list.Multiply ++ routine_if d list.Divide) (if_called (multiply s) n ++ if_called (divide s) d) n d
+  routines_fit s zero zero = record { code = λ cost. refl; boot = λ cost. refl; turns = λ cost. refl }
+  routines_fit s (suc n) zero = record {
+    code = λ cost. refl;
+    boot = λ cost. refl;
+    turns = λ cost. let a = total cost (multiply s (suc n)) in let b = multiply_total cost s (suc n) in omega (arith, a, b);
+  }
+  routines_fit s zero (suc d) = record {
+    code = λ cost. refl;
+    boot = λ cost. refl;
+    turns = λ cost. let a = total cost (divide s (suc d)) in let b = divide_total cost s (suc d) in omega (arith, a, b);
+  }
+  routines_fit s (suc n) (suc d) = record {
+    code = λ cost. refl;
+    boot = λ cost. refl;
+    turns = λ cost.
+        let a = total cost (multiply s (suc n)) in
+        let b = multiply_total cost s (suc n) in
+        let e = total cost (divide s (suc d)) in
+        let f = divide_total cost s (suc d) in
+        let g = sums_on (λ p. repeated p.turns (prim.kind_of Chip p.prim)) cost (multiply s (suc n)) (divide s (suc d)) in omega (arith, a, b, e, f, g);
+  }
+
+  abbrev Last : List Paced → List Paced
+  Last routines = record { prim = bytes.Jump 0; boot = 0; turns = 1 } ∷ routines
+
+  abbrev Behind : List Paced → List Paced → List Paced
+  Behind code routines =
+      record { prim = bytes.Label 0; boot = 1; turns = 1 } ∷ record { prim = bytes.CyclePoll 0; boot = 1; turns = 1 } ∷ (code ++ Last routines)
+
+  has_all : (cost : PrimKind → ℕ) (starts code routines : List Paced) → Has cost (booted (bytes.Start (ram_need o.plan.sizes)) ∷ (starts ++ Behind code routines))
+      ≡ cost prim.Start + (Has cost starts + (cost prim.CyclePoll + (Has cost code + (cost prim.Jump + Has cost routines))))
+  has_all cost starts code routines =
+      let a = sum_by-cons cost prim.Start (prim.kinds Chip (starts ++ Behind code routines)) in
+      let b = sums_on (λ p. prim.kind_of Chip p.prim) cost starts (Behind code routines) in
+      let d = sum_by-cons cost prim.CyclePoll (prim.kinds Chip (code ++ Last routines)) in
+      let e = sums_on (λ p. prim.kind_of Chip p.prim) cost code (Last routines) in
+      let f : Has cost (Last routines) ≡ cost prim.Jump + Has cost routines = sum_by-cons cost prim.Jump (prim.kinds Chip routines) in
+      let g : Has cost (Behind code routines) ≡ cost prim.CyclePoll + Has cost (code ++ Last routines) = d in
       a ∙ omega (arith, b, e, f, g)
 
-  boots_all : (cost : PrimKind → ℕ) (starts code : List Paced) → Boots cost (booted (bytes.Start (ram_need o.plan.sizes)) ∷ (starts ++ Behind code))
-      ≡ cost prim.Start + (Boots cost starts + (cost prim.CyclePoll + Boots cost code))
-  boots_all cost starts code =
-      let a = sum_by-cons cost prim.Start (boot_kinds Chip (starts ++ Behind code)) in
-      let b = sums_on (λ p. repeated p.boot (prim.kind_of Chip p.prim)) cost starts (Behind code) in
-      let d = sum_by-cons cost prim.CyclePoll (boot_kinds Chip (code ++ JumpBack)) in
-      let e = sums_on (λ p. repeated p.boot (prim.kind_of Chip p.prim)) cost code JumpBack in
-      let f : Boots cost JumpBack ≡ 0 = refl in
-      let g : Boots cost (Behind code) ≡ cost prim.CyclePoll + Boots cost (code ++ JumpBack) = d in
+  boots_all : (cost : PrimKind → ℕ) (starts code routines : List Paced) →
+      Boots cost (booted (bytes.Start (ram_need o.plan.sizes)) ∷ (starts ++ Behind code routines))
+      ≡ cost prim.Start + (Boots cost starts + (cost prim.CyclePoll + (Boots cost code + Boots cost routines)))
+  boots_all cost starts code routines =
+      let a = sum_by-cons cost prim.Start (boot_kinds Chip (starts ++ Behind code routines)) in
+      let b = sums_on (λ p. repeated p.boot (prim.kind_of Chip p.prim)) cost starts (Behind code routines) in
+      let d = sum_by-cons cost prim.CyclePoll (boot_kinds Chip (code ++ Last routines)) in
+      let e = sums_on (λ p. repeated p.boot (prim.kind_of Chip p.prim)) cost code (Last routines) in
+      let f : Boots cost (Last routines) ≡ Boots cost routines = refl in
+      let g : Boots cost (Behind code routines) ≡ cost prim.CyclePoll + Boots cost (code ++ Last routines) = d in
       a ∙ omega (arith, b, e, f, g)
 
-  turns_all : (cost : PrimKind → ℕ) (starts code : List Paced) → Turns cost (booted (bytes.Start (ram_need o.plan.sizes)) ∷ (starts ++ Behind code))
-      ≡ Turns cost starts + (cost prim.CyclePoll + (Turns cost code + cost prim.Jump))
-  turns_all cost starts code =
-      let b = sums_on (λ p. repeated p.turns (prim.kind_of Chip p.prim)) cost starts (Behind code) in
-      let d = sum_by-cons cost prim.CyclePoll (turn_kinds Chip (code ++ JumpBack)) in
-      let e = sums_on (λ p. repeated p.turns (prim.kind_of Chip p.prim)) cost code JumpBack in
-      let f : Turns cost JumpBack ≡ cost prim.Jump + 0 = sum_by-cons cost prim.Jump [] in
-      let g : Turns cost (Behind code) ≡ cost prim.CyclePoll + Turns cost (code ++ JumpBack) = d in
+  turns_all : (cost : PrimKind → ℕ) (starts code routines : List Paced) →
+      Turns cost (booted (bytes.Start (ram_need o.plan.sizes)) ∷ (starts ++ Behind code routines))
+      ≡ Turns cost starts + (cost prim.CyclePoll + (Turns cost code + (cost prim.Jump + Turns cost routines)))
+  turns_all cost starts code routines =
+      let b = sums_on (λ p. repeated p.turns (prim.kind_of Chip p.prim)) cost starts (Behind code routines) in
+      let d = sum_by-cons cost prim.CyclePoll (turn_kinds Chip (code ++ Last routines)) in
+      let e = sums_on (λ p. repeated p.turns (prim.kind_of Chip p.prim)) cost code (Last routines) in
+      let f : Turns cost (Last routines) ≡ cost prim.Jump + Turns cost routines = sum_by-cons cost prim.Jump (turn_kinds Chip routines) in
+      let g : Turns cost (Behind code routines) ≡ cost prim.CyclePoll + Turns cost (code ++ Last routines) = d in
       b ∙ omega (arith, e, f, g)
 
-  pub listed : (p : IntProgram) → CanPlace o p → IsListed Chip (starts_in p.starts) [] (operations o p) (code_of o p)
+  entries_on : (f : Entry → List PrimKind) (cost : PrimKind → ℕ) (xs ys : List Entry) →
+      sum_by cost (flat_map f (xs ++ ys)) ≡ sum_by cost (flat_map f xs) + sum_by cost (flat_map f ys)
+  entries_on f cost xs ys = ap (sum_by cost) (flat_map-append f xs ys) ∙ sum_by-append cost (flat_map f xs) (flat_map f ys)
+
+  pub listed : (p : IntProgram) → CanPlace o p → IsListed Chip (starts_in p.starts) (routines_in p.ops) (operations o p) (code_of o p)
   listed p can =
-      let lists = lists_fit p.ops 0 [] can.built can.range in
+      let lists = lists_fit p.ops 5 [] can.built can.range in
       let first = starts p.starts 0 in
       let n = starts_in p.starts in
       let front = start_values o p.starts 0 in
-      let code = lists_of o 0 p.ops 0 [] in
-      let none : lists.choice ++ [] ≡ lists.choice = append-nil lists.choice in
+      let code = lists_of o 0 p.ops 5 [] in
+      let behind = routines_of o p.ops in
+      let called = routines_fit (own_cells o.plan.target) (count_by calls_product p.ops) (count_by calls_quotient p.ops) in
+      let ends = map list.routine_entry (routines_in p.ops) in
       record {
         choice = lists.choice;
         chosen = lists.chosen;
         primitives = λ cost.
             let a = first.code cost in
             let b = lists.code cost in
-            let d = has_all cost front code in
-            let e = three_on cost prim.Start prim.CyclePoll prim.Jump (Moves n) (flat_map (λ e. e.code) (lists.choice ++ [])) in
-            let f = ap (λ (es : List Entry). sum_by cost (flat_map (λ e. e.code) es)) none in
-            subst (λ x. x ≤ sum_by cost (flat_map (λ e. e.code) (whole n [] lists.choice))) (sym d)
-            (subst (λ x. cost prim.Start + (Has cost front + (cost prim.CyclePoll + (Has cost code + cost prim.Jump))) ≤ x) (sym e) (omega (arith, a, b, f)));
+            let d = has_all cost front code behind in
+            let e = three_on cost prim.Start prim.CyclePoll prim.Jump (Moves n) (flat_map (λ e. e.code) (lists.choice ++ ends)) in
+            let f = entries_on (λ e. e.code) cost lists.choice ends in
+            let g = called.code cost in
+            subst (λ x. x ≤ sum_by cost (flat_map (λ e. e.code) (whole n (routines_in p.ops) lists.choice))) (sym d)
+            (subst (λ x. cost prim.Start + (Has cost front + (cost prim.CyclePoll + (Has cost code + (cost prim.Jump + Has cost behind)))) ≤ x) (sym e)
+            (omega (arith, a, b, f, g)));
         boot = λ cost.
             let a = first.boot cost in
             let b = lists.boot cost in
-            let d = boots_all cost front code in
-            let e = two_on cost prim.Start prim.CyclePoll (Moves n) (flat_map (λ e. e.boot) (lists.choice ++ [])) in
-            subst (λ x. x ≤ sum_by cost (flat_map (λ e. e.boot) (whole n [] lists.choice))) (sym d)
-            (subst (λ x. cost prim.Start + (Boots cost front + (cost prim.CyclePoll + Boots cost code)) ≤ x) (sym e) (omega (arith, a, b)));
+            let d = boots_all cost front code behind in
+            let e = two_on cost prim.Start prim.CyclePoll (Moves n) (flat_map (λ e. e.boot) (lists.choice ++ ends)) in
+            let g = called.boot cost in
+            subst (λ x. x ≤ sum_by cost (flat_map (λ e. e.boot) (whole n (routines_in p.ops) lists.choice))) (sym d)
+            (subst (λ x. cost prim.Start + (Boots cost front + (cost prim.CyclePoll + (Boots cost code + Boots cost behind))) ≤ x) (sym e)
+            (omega (arith, a, b, g)));
         turns = λ cost.
             let a = first.turns cost in
             let b = lists.turns cost in
-            let d = turns_all cost front code in
-            let e = two_on cost prim.CyclePoll prim.Jump [] (flat_map (λ e. e.turns) (lists.choice ++ [])) in
-            let f = ap (λ (es : List Entry). sum_by cost (flat_map (λ e. e.turns) es)) none in
-            subst (λ x. x ≤ sum_by cost (flat_map (λ e. e.turns) (whole n [] lists.choice))) (sym d)
-            (subst (λ x. Turns cost front + (cost prim.CyclePoll + (Turns cost code + cost prim.Jump)) ≤ x) (sym e) (omega (arith, a, b, f)));
+            let d = turns_all cost front code behind in
+            let e = two_on cost prim.CyclePoll prim.Jump [] (flat_map (λ e. e.turns) (lists.choice ++ ends)) in
+            let f = entries_on (λ e. e.turns) cost lists.choice ends in
+            let g = called.turns cost in
+            subst (λ x. x ≤ sum_by cost (flat_map (λ e. e.turns) (whole n (routines_in p.ops) lists.choice))) (sym d)
+            (subst (λ x. Turns cost front + (cost prim.CyclePoll + (Turns cost code + (cost prim.Jump + Turns cost behind))) ≤ x) (sym e)
+            (omega (arith, a, b, f, g)));
       }

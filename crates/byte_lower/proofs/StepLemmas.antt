@@ -1,7 +1,7 @@
 -- What the list of each operation does where its branch runs.
 use Rattle.std.proofs.Common.{◌≡◌, ℕ, suc, ◌+◌, ◌%◌, ◌<◌, inl, inr, Bool, true, false, not, List, [], ◌∷◌, ◌++◌, drop, get_or, ℤ, pos, refl, sym, ap, subst, ◌∙◌, arith}
 use Rattle.std.proofs.lemmas.Bool.{and_parts}
-use Rattle.std.specs.Prelude.{◌⊎◌, ◌&&◌, nat_lt, int_lt, ◌+ℤ◌, ◌-ℤ◌, neg_ℤ, if◌then◌else◌, None}
+use Rattle.std.specs.Prelude.{◌⊎◌, ◌&&◌, nat_lt, int_lt, ◌+ℤ◌, ◌-ℤ◌, ◌*ℤ◌, neg_ℤ, if◌then◌else◌, None}
 use Rattle.std.specs.Ordering.{int_eq}
 use Rattle.ld_base.specs.Wrap.{wrap}
 use Rattle.ladder_tree.specs.declared.element.MathHow.TheVariants as how
@@ -19,7 +19,7 @@ use Rattle.int_code.specs.WellFormed.{IsDest, IsSource, IsNumSource, IsComputed,
 use Rattle.int_code.specs.declared.op.BitDest as written
 use Rattle.int_code.specs.declared.op.BitSource as read
 use Rattle.int_code.specs.declared.op.IntOp.{IntOp}
-use Rattle.int_code.specs.declared.op.IntOp.TheVariants.{Set, Clr, Cpy, Not, Ifs, Ifc, Iflt, Ifeq, Els, Fi, Lit, Mov, Add, Sub, Inc, Dec, Tab}
+use Rattle.int_code.specs.declared.op.IntOp.TheVariants.{Set, Clr, Cpy, Not, Ifs, Ifc, Iflt, Ifeq, Els, Fi, Lit, Mov, Add, Sub, Inc, Dec, Tab, Mul, Div}
 use Rattle.int_code.specs.declared.op.NumSource.{NumSource}
 use Rattle.int_code.specs.declared.op.NumSource.TheVariants.{V, N}
 use Rattle.byte_code.specs.declared.prim.BitOp.TheVariants as bits
@@ -38,13 +38,14 @@ use Rattle.byte_code.specs.Counts.{TestFits}
 use Rattle.byte_code.specs.Machine.{label_place, next_with}
 use Rattle.byte_code.specs.Store.{bit_from, word_at, word_from, with_bit_at, with_word, lifted}
 use Rattle.byte_code.specs.Table.{plain, flagged, same, says, tested, word_effect, compare_effect}
+use Rattle.byte_lower.proofs.CallLemmas.{Serves, product_go, quotient_go}
 use Rattle.byte_lower.proofs.GoLemmas.{bit_go, word_go, compare_go, label_go, jump_go, where_go}
 use Rattle.byte_lower.proofs.LookUpLemmas.{look_up_step}
 use Rattle.byte_lower.proofs.RouteLemmas.{along, Reaches, Ahead, behind, pass}
 use Rattle.byte_lower.proofs.StoreLemmas.{Apart, Good, any_flag, bit_written, word_written, bit_read, is_shown, number_read}
-use Rattle.byte_lower.proofs.WordLemmas.{wrapped, sum_word, difference_word, opposite_sum, less_word, equal_word, next_less, next_number, none_above, equal_turned}
-use Rattle.byte_lower.specs.Layout.{word_cell, dest_of, source_of, room_of, HasPins}
-use Rattle.byte_lower.specs.Lists.{is_built, paced, number, word_in, label_of, list_of, top_of, labels_behind, compare_less, jump_where, unless_less, unless_equal, sum, difference}
+use Rattle.byte_lower.proofs.WordLemmas.{wrapped, sum_word, difference_word, quotient_word, opposite_sum, less_word, equal_word, next_less, next_number, none_above, equal_turned}
+use Rattle.byte_lower.specs.Layout.{own_cells, word_cell, dest_of, source_of, room_of, HasPins}
+use Rattle.byte_lower.specs.Lists.{is_built, paced, number, word_in, label_of, list_of, top_of, labels_behind, compare_less, jump_where, unless_less, unless_equal, sum, difference, product, quotient}
 use Rattle.byte_lower.specs.Stands.{IsWordOf}
 use Rattle.byte_lower.specs.declared.layout.Layout.{Layout}
 
@@ -213,6 +214,31 @@ module _ (code : List Paced) (o : Layout) (r : Reading) (apart : Apart o) (pins 
     difference_step v (N m) (N u) h hw hu e n =
         word_step (words.Move (word_cell o v) (number (wrap (m -ℤ u)))) v (wrap (m -ℤ u)) _ h.0 (literal (wrap (m -ℤ u)) (wrapped (m -ℤ u))) refl e n
 
+    product_step : Serves code (own_cells o.plan.target) → (v : ℕ) (w u : NumSource) → IsComputed (room_of o) v w u → HoldsNumber w → HoldsNumber u →
+        drop at code ≡ product o v w u ++ rest →
+        Then (along at (product o v w u)) labels ifs (with_number t v (computed how.Mul (number_of t w) (number_of t u))) → Reaches code Goal last s
+    product_step serves v (N m) (N u) h hw hu e n =
+        word_step (words.Move (word_cell o v) (number (wrap (m *ℤ u)))) v (wrap (m *ℤ u)) _ h.0 (literal (wrap (m *ℤ u)) (wrapped (m *ℤ u))) refl e n
+    product_step serves v (N m) (V b) h hw hu e n =
+        product_go code o r apart pins Goal last serves at rest t s closed good is_at v (N m) (V b) h hw hu e
+        (λ s1 shut good1 place. n s1 (record { closed = shut; good = good1; stands_at = inl (run, place) }))
+    product_step serves v (V a) u h hw hu e n =
+        product_go code o r apart pins Goal last serves at rest t s closed good is_at v (V a) u h hw hu e
+        (λ s1 shut good1 place. n s1 (record { closed = shut; good = good1; stands_at = inl (run, place) }))
+
+    quotient_step : Serves code (own_cells o.plan.target) → (v : ℕ) (w u : NumSource) → IsComputed (room_of o) v w u → HoldsNumber w → HoldsNumber u →
+        drop at code ≡ quotient o v w u ++ rest →
+        Then (along at (quotient o v w u)) labels ifs (with_number t v (computed how.Div (number_of t w) (number_of t u))) → Reaches code Goal last s
+    quotient_step serves v (N m) (N u) h hw hu e n =
+        word_step (words.Move (word_cell o v) (number (computed how.Div m u))) v (computed how.Div m u) _ h.0
+        (literal (computed how.Div m u) (quotient_word m u _ _ (literal m hw) (literal u hu)).number) refl e n
+    quotient_step serves v (N m) (V b) h hw hu e n =
+        quotient_go code o r apart pins Goal last serves at rest t s closed good is_at v (N m) (V b) h hw hu e
+        (λ s1 shut good1 place. n s1 (record { closed = shut; good = good1; stands_at = inl (run, place) }))
+    quotient_step serves v (V a) u h hw hu e n =
+        quotient_go code o r apart pins Goal last serves at rest t s closed good is_at v (V a) u h hw hu e
+        (λ s1 shut good1 place. n s1 (record { closed = shut; good = good1; stands_at = inl (run, place) }))
+
     -- an if whose first branch is known to run, or not to
     known_step : (b : Bool) (l : ℕ) → drop at code ≡ (if b then [] else paced (Jump l) ∷ []) ++ rest → Ahead code at l →
         Then (along at (if b then [] else paced (Jump l) ∷ [])) (l ∷ labels) (b ∷ ifs) t → Reaches code Goal last s
@@ -289,7 +315,7 @@ module _ (code : List Paced) (o : Layout) (r : Reading) (apart : Apart o) (pins 
 -- the list of an operation of which the branch runs does what the operation does
 module _ (code : List Paced) (o : Layout) (r : Reading) (apart : Apart o) (pins : HasPins o) (Goal : Bytes → Type 0) (last : ℕ) (k at : ℕ) (rest : List Paced)
     (labels : List ℕ) (t : int.Store) (s : Bytes) (closed : s.open_call ≡ None) (good : Good o r s.store t) (is_at : s.place ≡ at)
-    (own : Ahead code at (label_of k)) where
+    (own : Ahead code at (label_of k)) (serves : Serves code (own_cells o.plan.target)) where
   abbrev Onward : IntOp → List Bool → Type 0
   Onward op ifs = (s' : Bytes) → At code o r apart pins Goal last s' (along at (list_of o op (label_of k) (top_of labels)))
       (labels_behind (shape_of op) k labels) (ifs_after r op t ifs) (store_after r op t) → Reaches code Goal last s'
@@ -353,6 +379,10 @@ module _ (code : List Paced) (o : Layout) (r : Reading) (apart : Apart o) (pins 
   step_of (Add v w u) ifs built h hold opens run e n = sum_step code o r apart pins Goal last k at rest labels ifs t s closed good run is_at v w u h hold.0
       hold.1 e n
   step_of (Sub v w u) ifs built h hold opens run e n = difference_step code o r apart pins Goal last k at rest labels ifs t s closed good run is_at v w u h
+      hold.0 hold.1 e n
+  step_of (Mul v w u) ifs built h hold opens run e n = product_step code o r apart pins Goal last k at rest labels ifs t s closed good run is_at serves v w u h
+      hold.0 hold.1 e n
+  step_of (Div v w u) ifs built h hold opens run e n = quotient_step code o r apart pins Goal last k at rest labels ifs t s closed good run is_at serves v w u h
       hold.0 hold.1 e n
   step_of (Inc v) ifs built h hold opens run e n =
       word_step code o r apart pins Goal last k at rest labels ifs t s closed good run is_at (words.Increment (word_cell o v)) v (next (t.number v)) _ h

@@ -1,6 +1,6 @@
 -- A program's code uses of its chip only what its layout has.
 use Rattle.std.proofs.Common.{◌≡◌, ℕ, zero, suc, ◌+◌, ◌<◌, ◌≤◌, inl, inr, Bool, true, false, List, [], ◌∷◌, ◌++◌, length, drop, Option, Some, None, ℤ, pos, refl, sym, subst, arith}
-use Rattle.std.specs.Prelude.{if◌then◌else◌, int_lt, All}
+use Rattle.std.specs.Prelude.{if◌then◌else◌, int_lt, count_by, All}
 use Rattle.std.specs.Ordering.{int_eq}
 use Rattle.std.proofs.lemmas.List.{length-map}
 use Rattle.std.proofs.lemmas.List.Elements.{All-head, All-tail, All-nil, All-cons}
@@ -14,18 +14,19 @@ use Rattle.int_code.specs.declared.op.BitDest.TheVariants as opdest
 use Rattle.int_code.specs.declared.op.BitSource as read
 use Rattle.int_code.specs.declared.op.BitSource.TheVariants as opsource
 use Rattle.int_code.specs.declared.op.IntOp.{IntOp}
-use Rattle.int_code.specs.declared.op.IntOp.TheVariants.{Set, Clr, Cpy, Not, Ifs, Ifc, Iflt, Ifeq, Els, Fi, Lit, Mov, Add, Sub, Inc, Dec, Tab}
+use Rattle.int_code.specs.declared.op.IntOp.TheVariants.{Set, Clr, Cpy, Not, Ifs, Ifc, Iflt, Ifeq, Els, Fi, Lit, Mov, Add, Sub, Mul, Div, Inc, Dec, Tab}
 use Rattle.int_code.specs.declared.op.IntProgram.{IntProgram}
 use Rattle.int_code.specs.declared.op.NumSource.{NumSource}
 use Rattle.int_code.specs.declared.op.NumSource.TheVariants.{V, N}
 use Rattle.byte_code.specs.declared.prim.Paced.{Paced}
 use Rattle.byte_routines.specs.Routines.{zero_word, multiply, divide_front, divide_steps, divide}
+use Rattle.byte_routines.specs.declared.routines.TheConstants.{MULTIPLY, DIVIDE}
 use Rattle.byte_lower.proofs.CodeLemmas.{Every, every_on}
 use Rattle.byte_lower.proofs.ListLemmas.{guard_ranges}
 use Rattle.byte_lower.proofs.WordLemmas.{word_small}
-use Rattle.byte_lower.specs.Code.{CanPlace, booted, start_values, code_of}
+use Rattle.byte_lower.specs.Code.{CanPlace, booted, start_values, if_called, routines_of, code_of}
 use Rattle.byte_lower.specs.Layout.{word_cell, dest_of, source_of, room_of, own_cells}
-use Rattle.byte_lower.specs.Lists.{is_built, label_of, list_of, lists_of, top_of, labels_behind, unless_less, unless_equal, sum, difference, move, number, guard_of, look_up, put_known, put_where, joined}
+use Rattle.byte_lower.specs.Lists.{is_built, label_of, list_of, lists_of, top_of, labels_behind, unless_less, unless_equal, sum, difference, product, quotient, called, word_of_source, calls_product, calls_quotient, move, number, guard_of, look_up, put_known, put_where, joined}
 use Rattle.byte_lower.specs.Uses.{UsesWord, UsesByte, ReadsWord, ReadsBit, WritesBit, Uses}
 use Rattle.byte_lower.specs.declared.guard.Guard.{Guard}
 use Rattle.byte_lower.specs.declared.layout.Layout.{Layout}
@@ -107,6 +108,42 @@ module _ (o : Layout) where
         ),
       )
 
+  -- the compiler's own words, their bytes, the count and the sign
+  left : UsesWord o (own_cells o.plan.target).left
+  left = inr (inl refl)
+
+  right : UsesWord o (own_cells o.plan.target).right
+  right = inr (inr (inl refl))
+
+  outcome : UsesWord o (own_cells o.plan.target).outcome
+  outcome = inr (inr (inr refl))
+
+  count : UsesByte o (own_cells o.plan.target).count
+  count = inr (inl refl)
+
+  sign : UsesByte o (own_cells o.plan.target).sign
+  sign = inr (inr refl)
+
+  high : (w : ℕ) → UsesWord o w → UsesByte o (w + 1)
+  high w h = inl (w, h, inr refl)
+
+  read_word : (w : NumSource) → IsNumSource (room_of o) w → ReadsWord o (word_of_source o w)
+  read_word (V a) h = word a h
+  read_word (N n) h = bytes n
+
+  calls : (label result v : ℕ) (w u : NumSource) → UsesWord o result → IsComputed (room_of o) v w u → Every IsUsed (called o label result v w u)
+  calls label result v w u out h = ((left, read_word w h.1), ((right, read_word u h.2), (tt, ((word v h.0, out), tt))))
+
+  products : (v : ℕ) (w u : NumSource) → IsComputed (room_of o) v w u → Every IsUsed (product o v w u)
+  products v (N n) (N m) h = ((word v h.0, bytes _), tt)
+  products v (N n) (V b) h = calls MULTIPLY _ v (N n) (V b) outcome h
+  products v (V a) u h = calls MULTIPLY _ v (V a) u outcome h
+
+  quotients : (v : ℕ) (w u : NumSource) → IsComputed (room_of o) v w u → Every IsUsed (quotient o v w u)
+  quotients v (N n) (N m) h = ((word v h.0, bytes _), tt)
+  quotients v (N n) (V b) h = calls DIVIDE _ v (N n) (V b) left h
+  quotients v (V a) u h = calls DIVIDE _ v (V a) u left h
+
   list : (op : IntOp) (l top : ℕ) → is_built op ≡ true → IsInRange (room_of o) op → Every IsUsed (list_of o op l top)
   list (Set b) l top built h = (dest b h, tt)
   list (Clr b) l top built h = (dest b h, tt)
@@ -122,6 +159,8 @@ module _ (o : Layout) where
   list (Mov v f) l top built h = ((word v h.0, word f h.1), tt)
   list (Add v w u) l top built h = (sums v w u h, tt)
   list (Sub v w u) l top built h = (differences v w u h, tt)
+  list (Mul v w u) l top built h = products v w u h
+  list (Div v w u) l top built h = quotients v w u h
   list (Inc v) l top built h = (word v h, tt)
   list (Dec v) l top built h = (word v h, tt)
   list (Tab v w values) l top built h = looked v w values l h.0 h.1 h.2
@@ -146,25 +185,6 @@ module _ (o : Layout) where
       (every_on IsUsed (list_of o op (label_of k) (top_of labels)) (lists_of o zero ops (suc k) (labels_behind (shape_of op) k labels))
       own (lists zero ops (suc k) (labels_behind (shape_of op) k labels) built_behind range_behind))
 
-  -- the compiler's own words, their bytes, the count and the sign
-  left : UsesWord o (own_cells o.plan.target).left
-  left = inr (inl refl)
-
-  right : UsesWord o (own_cells o.plan.target).right
-  right = inr (inr (inl refl))
-
-  outcome : UsesWord o (own_cells o.plan.target).outcome
-  outcome = inr (inr (inr refl))
-
-  count : UsesByte o (own_cells o.plan.target).count
-  count = inr (inl refl)
-
-  sign : UsesByte o (own_cells o.plan.target).sign
-  sign = inr (inr refl)
-
-  high : (w : ℕ) → UsesWord o w → UsesByte o (w + 1)
-  high w h = inl (w, h, inr refl)
-
   none : ReadsWord o zero_word
   none = (omega arith, omega arith)
 
@@ -184,6 +204,18 @@ module _ (o : Layout) where
       steps : Every IsUsed (divide_steps (own_cells o.plan.target) calls)
       steps = (tt, (tt, (tt, ((left, sign), (tt, (tt, ((left, none), (tt, tt))))))))
 
+  multiply_if : (n : ℕ) → Every IsUsed (if_called (multiply (own_cells o.plan.target)) n)
+  multiply_if zero = tt
+  multiply_if (suc n) = multiply_used (suc n)
+
+  divide_if : (n : ℕ) → Every IsUsed (if_called (divide (own_cells o.plan.target)) n)
+  divide_if zero = tt
+  divide_if (suc n) = divide_used (suc n)
+
+  routines : (ops : List IntOp) → Every IsUsed (routines_of o ops)
+  routines ops = every_on IsUsed (if_called (multiply (own_cells o.plan.target)) (count_by calls_product ops)) _ (multiply_if (count_by calls_product ops))
+      (divide_if (count_by calls_quotient ops))
+
   starts : (ns : List ℤ) (v : ℕ) → v + length ns ≤ o.plan.sizes.variables → Every IsUsed (start_values o ns v)
   starts [] v h = tt
   starts (n ∷ ns) v h =
@@ -196,5 +228,5 @@ module _ (o : Layout) where
       every_in IsUsed (code_of o p) (
         refl,
         every_on IsUsed (start_values o p.starts 0) _ (starts p.starts 0 (omega (arith, can.starts)))
-            (tt, (tt, every_on IsUsed (lists_of o 0 p.ops 0 []) _ (lists 0 p.ops 0 [] can.built can.range) (tt, tt))),
+            (tt, (tt, every_on IsUsed (lists_of o 0 p.ops 5 []) _ (lists 0 p.ops 5 [] can.built can.range) (tt, routines p.ops))),
       )

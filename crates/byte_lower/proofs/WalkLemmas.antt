@@ -17,7 +17,7 @@ use Rattle.int_code.specs.declared.op.BitDest as written
 use Rattle.int_code.specs.declared.op.BitSource as read
 use Rattle.byte_code.specs.Table.{same}
 use Rattle.int_code.specs.declared.op.IntOp.{IntOp}
-use Rattle.int_code.specs.declared.op.IntOp.TheVariants.{Set, Clr, Cpy, Not, Ifs, Ifc, Iflt, Ifeq, Ifee, Els, Fi, Lit, Mov, Add, Sub, Inc, Dec, Tab}
+use Rattle.int_code.specs.declared.op.IntOp.TheVariants.{Set, Clr, Cpy, Not, Ifs, Ifc, Iflt, Ifeq, Ifee, Els, Fi, Lit, Mov, Add, Sub, Inc, Dec, Tab, Mul, Div}
 use Rattle.int_code.specs.declared.op.NumSource.{NumSource}
 use Rattle.int_code.specs.declared.op.NumSource.TheVariants.{V, N}
 use Rattle.int_code.specs.declared.op.Shape.{Shape}
@@ -30,8 +30,9 @@ use Rattle.byte_lower.proofs.GoLemmas.{label_go}
 use Rattle.byte_lower.proofs.RouteLemmas.{along, along_on, HasNoNames, NamesBut, Reaches, arrive, Ahead, behind, beyond, pass, pass_all, pass_but, found}
 use Rattle.byte_lower.proofs.StepLemmas.{same_true_is, same_false_is, guard_step, HasOpen, OpensOf, Sleeps, At, label_at, step_of}
 use Rattle.byte_lower.proofs.StoreLemmas.{Apart, Good, any_flag}
-use Rattle.byte_lower.specs.Layout.{room_of, HasPins}
-use Rattle.byte_lower.specs.Lists.{is_built, paced, label_of, list_of, lists_of, top_of, labels_behind, unless_less, unless_equal, sum, difference, put_known, look_up, guard_by, put_where, joined}
+use Rattle.byte_lower.specs.Layout.{room_of, HasPins, own_cells}
+use Rattle.byte_lower.specs.Lists.{is_built, paced, label_of, list_of, lists_of, top_of, labels_behind, unless_less, unless_equal, sum, difference, put_known, look_up, guard_by, put_where, joined, product, quotient}
+use Rattle.byte_lower.proofs.CallLemmas.{Serves}
 use Rattle.byte_lower.specs.declared.guard.Guard.{Guard}
 use Rattle.byte_lower.specs.declared.layout.Layout.{Layout}
 
@@ -84,6 +85,16 @@ abbrev pub IsNameless : IntOp → Type 0
 IsNameless (Tab v w values) = ⊥
 IsNameless op = shape_of op ≡ Plain
 
+product_names : (o : Layout) (v : ℕ) (w u : NumSource) → HasNoNames (product o v w u)
+product_names o v (N n) (N m) = ((λ l. refl), tt)
+product_names o v (N n) (V b) = ((λ l. refl), ((λ l. refl), ((λ l. refl), ((λ l. refl), tt))))
+product_names o v (V a) u = ((λ l. refl), ((λ l. refl), ((λ l. refl), ((λ l. refl), tt))))
+
+quotient_names : (o : Layout) (v : ℕ) (w u : NumSource) → HasNoNames (quotient o v w u)
+quotient_names o v (N n) (N m) = ((λ l. refl), tt)
+quotient_names o v (N n) (V b) = ((λ l. refl), ((λ l. refl), ((λ l. refl), ((λ l. refl), tt))))
+quotient_names o v (V a) u = ((λ l. refl), ((λ l. refl), ((λ l. refl), ((λ l. refl), tt))))
+
 pub no_names : (o : Layout) (op : IntOp) (l top : ℕ) → (shape_of op ≡ Opens) ⊎ IsNameless op → HasNoNames (list_of o op l top)
 no_names o (Set b) l top h = ((λ m. refl), tt)
 no_names o (Clr b) l top h = ((λ m. refl), tt)
@@ -101,6 +112,8 @@ no_names o (Lit v n) l top h = ((λ m. refl), tt)
 no_names o (Mov v f) l top h = ((λ m. refl), tt)
 no_names o (Add v w u) l top h = sum_names o v w u
 no_names o (Sub v w u) l top h = difference_names o v w u
+no_names o (Mul v w u) l top h = product_names o v w u
+no_names o (Div v w u) l top h = quotient_names o v w u
 no_names o (Inc v) l top h = ((λ m. refl), tt)
 no_names o (Dec v) l top h = ((λ m. refl), tt)
 no_names o (Tab v w values) l top (inl h) = absurd (cc)
@@ -489,7 +502,8 @@ module _ (code : List Paced) (o : Layout) (r : Reading) (apart : Apart o) (pins 
   at_end at (l ∷ labels) (b ∷ ifs) [] place n a (inr z) = absurd a
   at_end at (l ∷ labels) (b ∷ ifs) (e ∷ es) place n a (inr z) = absurd (cc)
 
-  module _ (end : Moment) (back : List Paced) (arrives : (s : Bytes) → s.open_call ≡ None → Good o r s.store end.store → s.place ≡ last → Goal s) where
+  module _ (end : Moment) (back : List Paced) (arrives : (s : Bytes) → s.open_call ≡ None → Good o r s.store end.store → s.place ≡ last → Goal s)
+      (serves : Serves code (own_cells o.plan.target)) where
     -- from where operations are to be run
     pub record Ready (ops : List IntOp) (k at : ℕ) (labels : List ℕ) (es : List Bool) (m : Moment) (s : Bytes) : Type 0 where
       pub built : All (λ op. is_built op ≡ true) ops
@@ -537,7 +551,7 @@ module _ (code : List Paced) (o : Layout) (r : Reading) (apart : Apart o) (pins 
         }) in
         ⊎_elim
         (λ awake. step_of code o r apart pins Goal last k at rest labels m.store s h.at_place.closed h.at_place.good awake.1
-        (h.marks.later (suc k) (omega arith)) op m.ifs
+        (h.marks.later (suc k) (omega arith)) serves op m.ifs
         (All-head (λ x. is_built x ≡ true) op ops h.built) (All-head (IsInRange (room_of o)) op ops h.range) (All-head HoldsNumbers op ops h.hold) opens
         awake.0 e1
         (λ s1 h1. go_on s1 (subst (λ x. At code o r apart pins Goal last s1 (along at ps) labels1 (step r op m).ifs (if x then store_after r op m.store else

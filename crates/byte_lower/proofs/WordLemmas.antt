@@ -1,6 +1,6 @@
 -- Numbers of 16 bits with a sign, and words.
 use Rattle.std.proofs.Common.{◌≡◌, ℕ, zero, suc, ◌+◌, ◌*◌, ◌-◌, ◌/◌, ◌%◌, ◌<◌, ◌≤◌, inl, inr, Bool, true, false, ltb, cond, ℤ, pos, negsuc, refl, sym, ap, subst, ◌∙◌, arith}
-use Rattle.std.specs.Prelude.{◌⊎◌, nat_lt, nat_le, ◌==◌, int_lt, int_le, ◌+ℤ◌, ◌-ℤ◌, ◌*ℤ◌, neg_ℤ, not}
+use Rattle.std.specs.Prelude.{◌⊎◌, nat_lt, nat_le, ◌==◌, int_lt, int_le, int_div, ◌+ℤ◌, ◌-ℤ◌, ◌*ℤ◌, neg_ℤ, not, if◌then◌else◌}
 use Rattle.std.specs.Int.{int_wrap, w16, cast_signed}
 use Rattle.std.specs.Int.RustNames.{FitsSigned}
 use Rattle.std.specs.Ordering.{int_eq}
@@ -9,9 +9,10 @@ use Rattle.std.proofs.lemmas.Bool.{and_from}
 use Rattle.std.proofs.lemmas.Int.{ints, SFits-int_wrap, to_z_pos, wrapping_add-bits, wrapping_sub-bits, wrapping_mul-bits, int_wrap_fits, int_wrap-add_right}
 use Rattle.ld_base.specs.Wrap.{wrap}
 use Rattle.ladder_meaning.specs.Device.{word_of}
-use Rattle.ladder_meaning.specs.Numbers.{is_number, IsNumber}
+use Rattle.ladder_meaning.specs.Numbers.{is_number, IsNumber, computed}
+use Rattle.ladder_tree.specs.declared.element.MathHow.TheVariants as how
 use Rattle.byte_code.specs.Store.{lifted}
-use Rattle.byte_routines.specs.Words.{product}
+use Rattle.byte_routines.specs.Words.{product, quotient, is_negative, negative, size, differ}
 use Rattle.byte_lower.specs.Stands.{IsWordOf}
 
 high_by : (m : ℕ) (b : Bool) → ltb m 32768 ≡ b → b ≡ false → cast_signed w16 m ≡ negsuc (65536 - suc m)
@@ -191,3 +192,77 @@ none_above (negsuc n) v h e = absurd (cc)
 -- a number that stands in an operation, as two bytes
 pub literal_word : (n : ℤ) → IsNumber n → IsWordOf n (word_of n % 256 + word_of n / 256 * 256)
 literal_word n h = record { number = h; word = omega arith }
+
+-- the sign of a number and its size, as its word has them
+record Sized (m : ℕ) (below : Bool) (k : ℕ) : Type 0 where
+  sign : is_negative m ≡ below
+  size_is : size m ≡ k
+
+low_sized : (x : ℕ) → x < 32768 → Sized (word_of (pos x)) false x
+low_sized x h =
+    let word : word_of (pos x) ≡ x = omega (arith, h) in
+    let low : is_negative x ≡ false = grind (arith, nat_tests, h) in
+    let sign : is_negative (word_of (pos x)) ≡ false = ap is_negative word ∙ low in
+    record { sign = sign; size_is = ap (λ b. if b then negative (word_of (pos x)) else word_of (pos x)) sign ∙ word }
+
+high_sized : (x : ℕ) → x < 32768 → Sized (word_of (negsuc x)) true (suc x)
+high_sized x h =
+    let word : word_of (negsuc x) ≡ 65536 - suc x = omega (arith, h) in
+    let high : is_negative (65536 - suc x) ≡ true = grind (arith, nat_tests, h) in
+    let sign : is_negative (word_of (negsuc x)) ≡ true = ap is_negative word ∙ high in
+    let back : negative (65536 - suc x) ≡ suc x = omega (arith, h) in
+    record { sign = sign; size_is = ap (λ b. if b then negative (word_of (negsuc x)) else word_of (negsuc x)) sign ∙ ap negative word ∙ back }
+
+-- a quotient of words by another than 0
+abbrev some_quotient : ℕ → ℕ → ℕ
+some_quotient m n = if differ (is_negative m) (is_negative n) then negative (size m / size n) else size m / size n
+
+sized_quotient : (m n k l : ℕ) (x y : Bool) → Sized m x k → Sized n y l → some_quotient m n ≡ (if differ x y then negative (k / l) else k / l)
+sized_quotient m n k l x y f g =
+    ap (λ b. if differ b (is_negative n) then negative (size m / size n) else size m / size n) f.sign
+    ∙ ap (λ b. if differ x b then negative (size m / size n) else size m / size n) g.sign
+    ∙ ap (λ i. if differ x y then negative (i / size n) else i / size n) f.size_is
+    ∙ ap (λ i. if differ x y then negative (k / i) else k / i) g.size_is
+
+no_more : (a b : ℕ) → a / b ≤ a
+no_more a b = grind arith
+
+small_word : (q : ℕ) → q < 65536 → q ≡ word_of (pos q)
+small_word q h = omega (arith, h)
+
+opposite_word : (q : ℕ) → q < 65536 → negative q ≡ word_of (neg_ℤ (pos q))
+opposite_word zero h = refl
+opposite_word (suc q) h = omega (arith, h)
+
+pos_small : (x : ℕ) → IsNumber (pos x) → x < 32768
+pos_small x h = grind (arith, nat_tests, h)
+
+neg_small : (x : ℕ) → IsNumber (negsuc x) → x < 32768
+neg_small x h = grind (arith, nat_tests, h)
+
+quotient_of : (a b : ℤ) → IsNumber a → IsNumber b → some_quotient (word_of a) (word_of b) ≡ word_of (int_div a b)
+quotient_of (pos x) (pos y) f g =
+    sized_quotient _ _ x y false false (low_sized x (pos_small x f)) (low_sized y (pos_small y g))
+    ∙ small_word (x / y) (omega (arith, no_more x y, pos_small x f))
+quotient_of (pos x) (negsuc y) f g =
+    sized_quotient _ _ x (suc y) false true (low_sized x (pos_small x f)) (high_sized y (neg_small y g))
+    ∙ opposite_word (x / suc y) (omega (arith, no_more x (suc y), pos_small x f))
+quotient_of (negsuc x) (pos y) f g =
+    sized_quotient _ _ (suc x) y true false (high_sized x (neg_small x f)) (low_sized y (pos_small y g))
+    ∙ opposite_word (suc x / y) (omega (arith, no_more (suc x) y, neg_small x f))
+quotient_of (negsuc x) (negsuc y) f g =
+    sized_quotient _ _ (suc x) (suc y) true true (high_sized x (neg_small x f)) (high_sized y (neg_small y g))
+    ∙ small_word (suc x / suc y) (omega (arith, no_more (suc x) (suc y), neg_small x f))
+
+-- a quotient is truncated toward zero, and by 0 it is 0
+pub quotient_word : (a b : ℤ) (m n : ℕ) → IsWordOf a m → IsWordOf b n → IsWordOf (computed how.Div a b) (quotient m n)
+quotient_word a b m n f g =
+    subst (λ c. IsWordOf (if c then pos 0 else wrap (int_div a b)) (quotient m n))
+    (sym (equal_word b (pos 0) n 0 g (record { number = refl; word = refl }))) (by (n == 0))
+  where
+    by : (c : Bool) → IsWordOf (if c then pos 0 else wrap (int_div a b)) (if c then 0 else some_quotient m n)
+    by true = record { number = refl; word = refl }
+    by false = record {
+      number = wrapped (int_div a b);
+      word = ap (λ k. some_quotient k n) f.word ∙ ap (some_quotient (word_of a)) g.word ∙ quotient_of a b f.number g.number ∙ sym (wrapped_word (int_div a b));
+    }

@@ -1,5 +1,5 @@
 -- The code of a program, and what each run of it does.
-use Rattle.std.specs.Prelude.{◌≡◌, ℕ, zero, suc, ◌<◌, ◌≤◌, Bool, true, false, List, [], ◌∷◌, ◌++◌, length, map, All, ℤ, pos, if◌then◌else◌, slice_index, slice_index_or, slice_get, Some, None}
+use Rattle.std.specs.Prelude.{◌≡◌, ℕ, zero, suc, ◌<◌, ◌≤◌, Bool, true, false, List, [], ◌∷◌, ◌++◌, length, map, count_by, All, ℤ, pos, if◌then◌else◌, slice_index, slice_index_or, slice_get, Some, None}
 use Rattle.std.specs.Ordering.{int_eq}
 use Rattle.chip_tables.specs.Scratch.{scratch_of}
 use Rattle.chip_tables.specs.declared.memory.TheConstants.{DATA_ADDRESSES}
@@ -20,8 +20,9 @@ use Rattle.byte_code.specs.declared.prim.Shape.TheVariants.{AtPoll}
 use Rattle.byte_code.specs.declared.state.Bytes.{Bytes}
 use Rattle.byte_code.specs.Counts.{Counted, counted_step, uncounted, KeepsCounts}
 use Rattle.byte_code.specs.Table.{shape_of}
-use Rattle.byte_lower.specs.Layout.{room_of, HasPins}
-use Rattle.byte_lower.specs.Lists.{is_built, paced, number, move, lists_of}
+use Rattle.byte_routines.specs.Routines.{multiply, divide}
+use Rattle.byte_lower.specs.Layout.{own_cells, room_of, HasPins}
+use Rattle.byte_lower.specs.Lists.{is_built, paced, number, move, lists_of, calls_product, calls_quotient}
 use Rattle.byte_lower.specs.Stands.{Stands, seen}
 use Rattle.byte_lower.specs.declared.layout.Layout.{Layout}
 
@@ -38,11 +39,21 @@ abbrev pub start_values : Layout → List ℤ → ℕ → List Paced
 start_values o [] v = []
 start_values o (n ∷ ns) v = if int_eq n (pos 0) then start_values o ns (suc v) else booted (move o v (number n)) ∷ start_values o ns (suc v)
 
--- the start, the start values, the cycle poll behind label 0, the lists of the operations, and the jump back
+-- a routine that is called so often stands once, and one that is not called nowhere
+abbrev pub if_called : (ℕ → List Paced) → ℕ → List Paced
+if_called routine zero = []
+if_called routine (suc calls) = routine (suc calls)
+
+-- the routines that operations call
+abbrev pub routines_of : Layout → List IntOp → List Paced
+routines_of o ops =
+    if_called (multiply (own_cells o.plan.target)) (count_by calls_product ops) ++ if_called (divide (own_cells o.plan.target)) (count_by calls_quotient ops)
+
+-- the start, the start values, the cycle poll behind label 0, the lists of the operations, the jump back, and the routines
 abbrev pub code_of : Layout → IntProgram → List Paced
 code_of o p =
     booted (Start (ram_need o.plan.sizes))
-    ∷ (start_values o p.starts 0 ++ polling (Label 0) ∷ polling (CyclePoll 0) ∷ (lists_of o 0 p.ops 0 [] ++ paced (Jump 0) ∷ []))
+    ∷ (start_values o p.starts 0 ++ polling (Label 0) ∷ polling (CyclePoll 0) ∷ (lists_of o 0 p.ops 5 [] ++ paced (Jump 0) ∷ routines_of o p.ops))
 
 -- Operations that are lowered, that nest, whose numbers have places and 16 bits; and a start value for each variable that does not start at 0.
 pub record CanPlace (o : Layout) (p : IntProgram) : Type 0 where

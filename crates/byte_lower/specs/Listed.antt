@@ -1,11 +1,13 @@
 -- The operations of a program by the public list of what each may be lowered to.
-use Rattle.std.specs.Prelude.{ℕ, suc, List, [], ◌∷◌, ℤ, pos, if◌then◌else◌, map}
+use Rattle.std.specs.Prelude.{ℕ, zero, suc, List, [], ◌∷◌, ◌++◌, ℤ, pos, if◌then◌else◌, map, count_by}
 use Rattle.std.specs.Ordering.{int_eq}
 use Rattle.int_code.specs.Kinds as op
 use Rattle.int_code.specs.Kinds.{Kind, kinds}
+use Rattle.int_code.specs.declared.op.IntOp.{IntOp}
 use Rattle.int_code.specs.declared.op.IntProgram.{IntProgram}
 use Rattle.byte_code.specs.Lowered as list
-use Rattle.byte_code.specs.Lowered.{Operation}
+use Rattle.byte_code.specs.Lowered.{Operation, Routine}
+use Rattle.byte_lower.specs.Lists.{calls_product, calls_quotient}
 use Rattle.byte_lower.specs.declared.layout.Layout.{Layout}
 
 -- the list names operations as their kinds do
@@ -47,3 +49,12 @@ operations o p = map operation_of (kinds o.plan.sizes.kept_bits p.ops)
 abbrev pub starts_in : List ℤ → ℕ
 starts_in [] = 0
 starts_in (n ∷ ns) = if int_eq n (pos 0) then starts_in ns else suc (starts_in ns)
+
+-- a routine that is called stands once
+abbrev pub routine_if : ℕ → Routine → List Routine
+routine_if zero r = []
+routine_if (suc calls) r = r ∷ []
+
+-- the routines that operations call
+abbrev pub routines_in : List IntOp → List Routine
+routines_in ops = routine_if (count_by calls_product ops) list.Multiply ++ routine_if (count_by calls_quotient ops) list.Divide

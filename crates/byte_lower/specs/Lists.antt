@@ -1,5 +1,5 @@
 -- The list of primitives of each operation.
-use Rattle.std.specs.Prelude.{ℕ, zero, suc, Bool, true, false, List, [], ◌∷◌, ◌++◌, length, map, ℤ, pos, ◌+ℤ◌, neg_ℤ, int_lt, if◌then◌else◌, Option, Some, None}
+use Rattle.std.specs.Prelude.{ℕ, zero, suc, Bool, true, false, List, [], ◌∷◌, ◌++◌, length, map, ℤ, pos, ◌+ℤ◌, neg_ℤ, int_lt, if◌then◌else◌, Option, Some, None, not}
 use Rattle.std.specs.Ordering.{int_eq}
 use Rattle.ladder_meaning.specs.Device.{low_byte, high_byte, word_of}
 use Rattle.ladder_meaning.specs.Numbers.{computed, value_at}
@@ -15,7 +15,7 @@ use Rattle.int_code.specs.declared.op.NumSource.TheVariants.{V, N}
 use Rattle.int_code.specs.declared.op.Shape.{Shape}
 use Rattle.int_code.specs.declared.op.Shape.TheVariants.{Opens, Turns, Closes, Plain}
 use Rattle.byte_code.specs.declared.prim.BytePrim.{BytePrim}
-use Rattle.byte_code.specs.declared.prim.BytePrim.TheVariants.{Label, Jump, JumpWhere, Bit, Word, Compare, Table}
+use Rattle.byte_code.specs.declared.prim.BytePrim.TheVariants.{Label, Jump, JumpWhere, Bit, Word, Compare, Table, Call}
 use Rattle.byte_code.specs.declared.prim.Test.TheVariants as test
 use Rattle.byte_code.specs.declared.prim.BitOp.TheVariants as bits
 use Rattle.byte_code.specs.declared.prim.WordOp.TheVariants as words
@@ -25,11 +25,12 @@ use Rattle.byte_code.specs.declared.prim.FlagKind.TheVariants as kind
 use Rattle.byte_code.specs.declared.prim.WordSource.{WordSource}
 use Rattle.byte_code.specs.declared.prim.WordSource.TheVariants as word
 use Rattle.byte_code.specs.declared.prim.Paced.{Paced}
+use Rattle.byte_routines.specs.declared.routines.TheConstants.{MULTIPLY, DIVIDE}
 use Rattle.byte_lower.specs.Layout.{own_cells, word_cell, dest_of, source_of}
 use Rattle.byte_lower.specs.declared.guard.Guard.{Guard}
 use Rattle.byte_lower.specs.declared.layout.Layout.{Layout}
 
--- The operations that are lowered: all but products, quotients and what is done to devices.
+-- The operations that are lowered: all but what is done to devices.
 abbrev pub is_built : IntOp → Bool
 is_built (Set b) = true
 is_built (Clr b) = true
@@ -48,8 +49,8 @@ is_built (Sub v w u) = true
 is_built (Inc v) = true
 is_built (Dec v) = true
 is_built (Ifee v a) = false
-is_built (Mul v w u) = false
-is_built (Div v w u) = false
+is_built (Mul v w u) = true
+is_built (Div v w u) = true
 is_built (Adc v k) = false
 is_built (Pwm w hz) = false
 is_built (Rx v b) = false
@@ -63,7 +64,8 @@ is_built (Tab v w values) = true
 abbrev pub paced : BytePrim → Paced
 paced p = record { prim = p; boot = 0; turns = 1 }
 
--- the label that an operation names or moves on to, by its number among the operations; label 0 is in front of the cycle poll
+-- The label that an operation names or moves on to, by its number. The first operation has number 5: label 0 is in front of the cycle poll, and those up to 5
+-- are of the routines.
 abbrev pub label_of : ℕ → ℕ
 label_of k = suc k
 
@@ -123,6 +125,43 @@ difference o v (V a) (V b) = taken_from o v (word_in o a) b
 difference o v (V a) (N m) = added o v a (number (wrap (neg_ℤ m)))
 difference o v (N n) (V b) = taken_from o v (number n) b
 difference o v (N n) (N m) = put o v (number (computed how.Sub n m))
+
+-- of two numbers, what is computed is known
+abbrev pub are_known : NumSource → NumSource → Bool
+are_known (N n) (N m) = true
+are_known (N n) (V b) = false
+are_known (V a) u = false
+
+-- the word of a number
+abbrev pub word_of_source : Layout → NumSource → WordSource
+word_of_source o (V a) = word_in o a
+word_of_source o (N n) = number n
+
+-- moves the numbers to the words of a routine, calls it, and moves its result
+abbrev pub called : Layout → ℕ → ℕ → ℕ → NumSource → NumSource → List Paced
+called o label result v w u =
+    paced (Word (words.Move (own_cells o.plan.target).left (word_of_source o w)))
+    ∷ paced (Word (words.Move (own_cells o.plan.target).right (word_of_source o u)))
+    ∷ paced (Call label) ∷ put o v (word.Cells result) ∷ []
+
+abbrev pub product : Layout → ℕ → NumSource → NumSource → List Paced
+product o v (N n) (N m) = put o v (number (computed how.Mul n m)) ∷ []
+product o v (N n) (V b) = called o MULTIPLY (own_cells o.plan.target).outcome v (N n) (V b)
+product o v (V a) u = called o MULTIPLY (own_cells o.plan.target).outcome v (V a) u
+
+abbrev pub quotient : Layout → ℕ → NumSource → NumSource → List Paced
+quotient o v (N n) (N m) = put o v (number (computed how.Div n m)) ∷ []
+quotient o v (N n) (V b) = called o DIVIDE (own_cells o.plan.target).left v (N n) (V b)
+quotient o v (V a) u = called o DIVIDE (own_cells o.plan.target).left v (V a) u
+
+-- the operations that call the routine of products, and that of quotients
+abbrev pub calls_product : IntOp → Bool
+calls_product (Mul v w u) = not (are_known w u)
+calls_product op = false
+
+abbrev pub calls_quotient : IntOp → Bool
+calls_quotient (Div v w u) = not (are_known w u)
+calls_quotient op = false
 
 abbrev pub put_bit : Layout → written.BitDest → Bool → Paced
 put_bit o b x = paced (Bit (bits.Put (dest_of o b) x))
@@ -188,13 +227,13 @@ list_of o (Lit v n) l top = put o v (number n) ∷ []
 list_of o (Mov v from) l top = put o v (word_in o from) ∷ []
 list_of o (Add v w u) l top = sum o v w u ∷ []
 list_of o (Sub v w u) l top = difference o v w u ∷ []
+list_of o (Mul v w u) l top = product o v w u
+list_of o (Div v w u) l top = quotient o v w u
 list_of o (Inc v) l top = count_up o v ∷ []
 list_of o (Dec v) l top = count_down o v ∷ []
 list_of o (Tab v w values) l top = look_up o v w values l
 -- these are not built
 list_of o (Ifee v a) l top = []
-list_of o (Mul v w u) l top = []
-list_of o (Div v w u) l top = []
 list_of o (Adc v n) l top = []
 list_of o (Pwm w hz) l top = []
 list_of o (Rx v b) l top = []

@@ -1,6 +1,7 @@
 //! From flat operations to code of the byte machine.
 #![tactic(auto)]
 
+mod calls;
 mod guard;
 pub mod laws;
 pub mod layout;

@@ -5,6 +5,7 @@ ghost use Rattle.int_code.specs.WellFormed.{IsDest, IsInRange, IsSource};
 ghost use Rattle.byte_lower.specs.Layout.{room_of};
 ghost use Rattle.byte_lower.specs.Lists as lists;
 
+use crate::calls::{product, quotient};
 use crate::guard::Guard;
 use crate::layout::Layout;
 use crate::numbers::{difference, number, put, sum, unless_equal, unless_less, word};
@@ -24,8 +25,9 @@ pub fn is_built(op: &IntOp) -> bool
         IntOp::Ifs { .. } | IntOp::Ifc { .. } | IntOp::Iflt { .. } | IntOp::Ifeq { .. } => true,
         IntOp::Els | IntOp::Fi => true,
         IntOp::Lit { .. } | IntOp::Mov { .. } | IntOp::Add { .. } | IntOp::Sub { .. } => true,
+        IntOp::Mul { .. } | IntOp::Div { .. } => true,
         IntOp::Inc { .. } | IntOp::Dec { .. } => true,
-        IntOp::Ifee { .. } | IntOp::Mul { .. } | IntOp::Div { .. } => false,
+        IntOp::Ifee { .. } => false,
         IntOp::Adc { .. } | IntOp::Pwm { .. } | IntOp::Rx { .. } | IntOp::Tx { .. } => false,
         IntOp::Eebusy { .. } | IntOp::Eerd { .. } | IntOp::Eewr { .. } => false,
         IntOp::Tab { .. } => true,
@@ -128,13 +130,15 @@ pub(crate) fn emit(
         IntOp::Mov { v, from } => put(layout, *v, word(layout, *from)),
         IntOp::Add { v, w, u } => sum(layout, *v, *w, *u),
         IntOp::Sub { v, w, u } => difference(layout, *v, *w, *u),
+        IntOp::Mul { v, w, u } => return product(into, layout, *v, *w, *u),
+        IntOp::Div { v, w, u } => return quotient(into, layout, *v, *w, *u),
         IntOp::Inc { v } => count_up(layout, *v),
         IntOp::Dec { v } => count_down(layout, *v),
         IntOp::Tab { v, w, values } => {
             let values = values.as_slice();
             return look_up(into, alloc, layout, *v, *w, values, label);
         }
-        IntOp::Ifee { .. } | IntOp::Mul { .. } | IntOp::Div { .. } => unreachable!(),
+        IntOp::Ifee { .. } => unreachable!(),
         IntOp::Adc { .. } | IntOp::Pwm { .. } | IntOp::Rx { .. } | IntOp::Tx { .. } =>
             unreachable!(),
         IntOp::Eebusy { .. } | IntOp::Eerd { .. } | IntOp::Eewr { .. } => unreachable!(),

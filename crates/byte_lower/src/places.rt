@@ -1,6 +1,6 @@
 //! The places of variables and bits by their numbers.
 
-ghost use Rattle.std.specs.Prelude.{◌≡◌, ◌<◌, ◌+◌};
+ghost use Rattle.std.specs.Prelude.{◌≡◌, ◌<◌, ◌≤◌, ◌+◌};
 ghost use Rattle.chip_tables.specs.declared.scratch.TheConstants.{WIRES};
 ghost use Rattle.int_code.specs.WellFormed.{IsDest, IsSource};
 ghost use Rattle.mem_plan.specs.Needs.{ram_need};
@@ -30,7 +30,9 @@ impl Layout {
 
     /// The compiler's own cells.
     pub(crate) fn own_cells(&self) -> Scratch
-        ensures { result ≡ own_cells self.now.plan.target }
+        ensures cells { result ≡ own_cells self.now.plan.target }
+        ensures left { result.left ≤ 1000 }
+        ensures right { result.right ≤ 1000 }
     {
         scratch_cells(self.plan.target()).unwrap()
     }

@@ -8,13 +8,14 @@ ghost use Rattle.byte_code.specs.Lowered.{IsListed};
 ghost use Rattle.byte_lower.specs.Outfit.{outfit_of};
 ghost use Rattle.byte_lower.specs.Uses.{Uses};
 ghost use Rattle.byte_lower.specs.Layout.{room_of};
-ghost use Rattle.byte_lower.specs.Listed.{operations, starts_in};
+ghost use Rattle.byte_lower.specs.Listed.{operations, routines_in, starts_in};
 ghost use Rattle.byte_lower.specs.Whole.{HasLabels};
 ghost use Rattle.byte_lower.specs.Emitted.{Goes};
 ghost use Rattle.byte_lower.specs.Lists.{is_built, labels_behind, lists_of, top_of};
 ghost use Rattle.byte_lower.specs.Code as spec;
 ghost use Rattle.byte_lower.specs.Code.{CanPlace, Carries, code_of, start_values};
 
+use crate::calls::push_routines;
 use crate::guard::guard_at;
 use crate::layout::Layout;
 use crate::numbers::{number, put};
@@ -23,6 +24,9 @@ use crate::push::paced;
 use byte_code::prim::{BytePrim, Paced, Prims};
 use int_code::op::{IntOp, IntProgram, Shape};
 use std::alloc::{AllocError, Global};
+
+/// The number of the first operation: the labels up to it are those of the loop and of the routines.
+const FIRST: u32 = 5;
 
 fn booted(prim: BytePrim) -> Paced
     ensures { result ≡ spec.booted prim }
@@ -98,8 +102,8 @@ fn emit_next(
         None => {
             let op = &ops[k];
             let top = top_of(labels.as_slice());
-            emit(code, alloc, layout, op, k as u32 + 1, top)?;
-            follow(labels, op.shape(), k as u32)?;
+            emit(code, alloc, layout, op, k as u32 + 1 + FIRST, top)?;
+            follow(labels, op.shape(), k as u32 + FIRST)?;
             Ok(0)
         }
     }
@@ -116,7 +120,7 @@ fn emit_all(
     requires built { All (λ op. is_built op ≡ true) ops.now }
     requires range { All (IsInRange (room_of layout.now)) ops.now }
     requires few { length ops.now ≤ 1000000 }
-    ensures { OnOk result (code.new ≡ code.old ++ lists_of layout.now 0 ops.now 0 []) }
+    ensures { OnOk result (code.new ≡ code.old ++ lists_of layout.now 0 ops.now 5 []) }
 {
     let mut labels: Vec<u32> = Vec::new(alloc);
     let mut passed = 0;
@@ -144,7 +148,7 @@ fn emit_starts(code: &mut Prims, layout: &Layout, starts: &[i16]) -> Result<(), 
     Ok(())
 }
 
-/// The start, the start values, and the cycle.
+/// The start, the start values, the cycle, and the routines behind it.
 fn emit_program(alloc: Global, layout: &Layout, program: &IntProgram) -> Result<Prims, AllocError>
     requires { CanPlace layout.now program.now }
     ensures { IfOk result (λ code. code ≡ code_of layout.now program.now) }
@@ -157,6 +161,7 @@ fn emit_program(alloc: Global, layout: &Layout, program: &IntProgram) -> Result<
     code.push(polling(BytePrim::CyclePoll { label: 0 }))?;
     emit_all(&mut code, alloc, layout, program.ops.as_slice())?;
     code.push(paced(BytePrim::Jump { label: 0 }))?;
+    push_routines(&mut code, layout, program.ops.as_slice())?;
     Ok(code)
 }
 
@@ -171,7 +176,7 @@ pub fn lower_bytes(
     ensures code { IfOk result (λ code. code ≡ code_of layout.now program.now) }
     ensures runs { IfOk result (λ code. Carries layout.now program.now code) }
     ensures whole { IfOk result (λ code. HasLabels code) }
-    ensures listed { IfOk result (λ code. IsListed layout.now.plan.target (starts_in program.now.starts) [] (operations layout.now program.now) code) }
+    ensures listed { IfOk result (λ code. IsListed layout.now.plan.target (starts_in program.now.starts) (routines_in program.now.ops) (operations layout.now program.now) code) }
     ensures admitted { IfOk result (λ code. list_all (λ p. admits (outfit_of layout.now) p.prim) code ≡ true) }
     ensures uses { IfOk result (λ code. All (λ p. Uses layout.now p.prim) code) }
 {

@@ -1,9 +1,10 @@
 -- Calls of the routines come back with their results, and begin each place as often as is said.
-use Rattle.std.proofs.Common.{◌≡◌, ◌≢◌, ℕ, zero, suc, ◌+◌, ◌<◌, ◌≤◌, Bool, true, false, cond, List, [], ◌∷◌, ◌++◌, drop, map, Some, None, refl, sym, ap, subst, ◌∙◌, arith}
+use Rattle.std.proofs.Common.{◌≡◌, ◌≢◌, ℕ, zero, suc, ◌+◌, ◌<◌, ◌≤◌, Bool, true, false, cond, List, [], ◌∷◌, ◌++◌, drop, length, map, Some, None, refl, sym, ap, subst, ◌∙◌, arith}
 use Rattle.std.specs.Prelude.{slice_get, ◌==◌}
 use Rattle.std.proofs.lemmas.Bool.Decides.{nat_tests}
 use Rattle.chip_tables.specs.Outside.{no_reading}
 use Rattle.chip_tables.specs.Scratch.{pic_scratch, avr_scratch, scratch_of}
+use Rattle.chip_tables.specs.declared.memory.TheConstants.{DATA_ADDRESSES}
 use Rattle.chip_tables.specs.declared.outside.PinReading.{PinReading}
 use Rattle.chip_tables.specs.declared.scratch.Scratch.{Scratch}
 use Rattle.chip_tables.specs.declared.target.Target.{Target}
@@ -73,11 +74,11 @@ leads code T s _ _ none (waits {begun = begun} {sent = sent} p h polls fits w) =
     let is : byte_step code s true no_reading ≡ Some x = step_at code s p h ∙ ap (λ (k : Shape). Some (shaped code p.prim k s d true no_reading)) polls in
     (more.0, goes x is refl refl more.1, more.2)
 
-up_is : (k at : ℕ) → up k at ≡ k + at
+pub up_is : (k at : ℕ) → up k at ≡ k + at
 up_is zero at = omega arith
 up_is (suc k) at = let e = up_is k at in omega (arith, e)
 
-same_test : (j k at : ℕ) → (up j at == up k at) ≡ (j == k)
+pub same_test : (j k at : ℕ) → (up j at == up k at) ≡ (j == k)
 same_test j k at = by (j == k) refl
   where
     by : (b : Bool) → (j == k) ≡ b → (up j at == up k at) ≡ b
@@ -97,11 +98,11 @@ counted_from (j ∷ ks) k at back h =
     ∙ ap (λ n. cond (j == k) 1 0 + n) (counted_from ks k at back h) ∙ sym (times-cons k j ks)
 
 -- a fact at each place of a list
-abbrev AllAt : {X : Type 0} → (ℕ → X → Type 0) → List X → Type 0
+abbrev pub AllAt : {X : Type 0} → (ℕ → X → Type 0) → List X → Type 0
 AllAt P [] = Unit {0}
 AllAt P (x ∷ xs) = P 0 x × AllAt (λ i. P (suc i)) xs
 
-all_at : {X : Type 0} (P : ℕ → X → Type 0) (xs : List X) → AllAt P xs → (i : ℕ) (x : X) → slice_get xs i ≡ Some x → P i x
+pub all_at : {X : Type 0} (P : ℕ → X → Type 0) (xs : List X) → AllAt P xs → (i : ℕ) (x : X) → slice_get xs i ≡ Some x → P i x
 all_at P [] a i x e = absurd (cc)
 all_at P (y ∷ xs) a zero x e = let f : y ≡ x = cc in subst (P 0) f a.0
 all_at P (y ∷ xs) a (suc i) x e = all_at (λ i. P (suc i)) xs a.1 i x e
@@ -121,14 +122,15 @@ counts routine ks begun at back h c is k q e =
     omega (arith, one, two)
 
 -- where a call ends
-record Back (s : Scratch) (d : Store) (back to n : ℕ) (e : Bytes) : Type 0 where
-  place : e.place ≡ back
-  closed : e.open_call ≡ None
-  result : IsWord e.store to n
-  kept : (c : ℕ) → IsOther s c → cell e.store c ≡ cell d c
-  rest : e.store ≡ record d { cells = e.store.cells; flag = e.store.flag }
+pub record Back (s : Scratch) (d : Store) (back to n : ℕ) (e : Bytes) : Type 0 where
+  pub place : e.place ≡ back
+  pub closed : e.open_call ≡ None
+  pub cells : length e.store.cells ≡ DATA_ADDRESSES
+  pub result : IsWord e.store to n
+  pub kept : (c : ℕ) → IsOther s c → cell e.store c ≡ cell d c
+  pub rest : e.store ≡ record d { cells = e.store.cells; flag = e.store.flag }
 
-called : (s : Scratch) (at back a b : ℕ) (e : Bytes) → IsCalled s at back a b e → Works s e.store e.store a b 65536 (cell e.store s.count) (cell e.store s.sign)
+pub called : (s : Scratch) (at back a b : ℕ) (e : Bytes) → IsCalled s at back a b e → Works s e.store e.store a b 65536 (cell e.store s.count) (cell e.store s.sign)
 called s at back a b e c = record {
   scratch = c.scratch;
   cells = c.cells;
@@ -149,7 +151,7 @@ products t s is code calls at back a b rest ahead loop_is before e c =
     let few : product a b < 65536 = omega arith in
     let way = multiplies code T s apart e.store calls at back rest ahead loop_up a b 65536 (cell e.store s.count) (cell e.store s.sign) e c.place c.opened
     (called s at back a b e c)
-    (λ x m. there (record { place = m.place; closed = m.closed; result = m.works.outcome few; kept = m.works.kept; rest = m.works.rest })) in
+    (λ x m. there (record { place = m.place; closed = m.closed; cells = m.works.cells; result = m.works.outcome few; kept = m.works.kept; rest = m.works.rest })) in
     let l = leads code T e _ [] refl way in
     record {
       end = l.0;
@@ -252,7 +254,7 @@ quotients t s is code calls at back a b rest ahead loop_is zero_is before e c =
     let zero_up : label_place code 5 ≡ up 13 at = omega (arith, zero_is, up_is 13 at) in
     let way = divides code T s apart e.store calls at back rest ahead loop_up zero_up a b 65536 (cell e.store s.count) (cell e.store s.sign) e c.place c.opened
     (called s at back a b e c)
-    (λ x m. there (record { place = m.place; closed = m.closed; result = m.works.left; kept = m.works.kept; rest = m.works.rest })) in
+    (λ x m. there (record { place = m.place; closed = m.closed; cells = m.works.cells; result = m.works.left; kept = m.works.kept; rest = m.works.rest })) in
     let l = leads code T e _ [] refl way in
     record {
       end = l.0;

@@ -5,3 +5,4 @@ pub mod GoLemmas
 pub mod ProductLemmas
 pub mod QuotientLemmas
 pub mod CallLemmas
+pub mod CostLemmas

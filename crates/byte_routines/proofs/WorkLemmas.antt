@@ -89,7 +89,7 @@ avr_apart = apart_by avr_scratch (omega arith) (omega arith) (omega arith) (omeg
 pub word_is : (d : Store) (at n : ℕ) → IsWord d at n → word_at d at ≡ n
 word_is d at n w = omega (arith, w.low, w.high)
 
-put_word : (d : Store) (at n : ℕ) → at + 1 < length d.cells → n < 65536 → IsWord (with_word d at n) at n
+pub put_word : (d : Store) (at n : ℕ) → at + 1 < length d.cells → n < 65536 → IsWord (with_word d at n) at n
 put_word d at n h small =
     let one : cell (with_word d at n) at ≡ cell (with_cell d at (n % 256)) at = cell_kept (with_cell d at (n % 256)) (at + 1) (n / 256 % 256) at (λ e. omega (arith, e)) in
     let two : cell (with_cell d at (n % 256)) at ≡ n % 256 = cell_put d at (n % 256) (omega (arith, h)) in
@@ -98,7 +98,7 @@ put_word d at n h small =
     let four : n / 256 % 256 ≡ n / 256 = omega (arith, small) in
     record { small = small; low = one ∙ two; high = three ∙ four }
 
-word_stays : (d : Store) (at n other m : ℕ) → Far other at → IsWord d other m → IsWord (with_word d at n) other m
+pub word_stays : (d : Store) (at n other m : ℕ) → Far other at → IsWord d other m → IsWord (with_word d at n) other m
 word_stays d at n other m far w = record {
   small = w.small;
   low = word_put_other d at n other far.0.0 far.0.1 ∙ w.low;

@@ -1,4 +1,4 @@
-use Rattle.std.proofs.Common.{◌≡◌, List, [], true, sym, subst}
+use Rattle.std.proofs.Common.{◌≡◌, List, true, sym, subst}
 use Rattle.std.specs.List.{list_all}
 use Rattle.std.specs.Prelude.{All}
 use Rattle.byte_code.specs.Admitted.{admits}
@@ -10,7 +10,7 @@ use Rattle.byte_lower.specs.Uses.{Uses}
 use Rattle.byte_lower.proofs.UseLemmas.{used}
 use Rattle.byte_lower.proofs.CycleLemmas.{carries}
 use Rattle.byte_lower.proofs.NameLemmas.{whole}
-use Rattle.byte_lower.specs.Listed.{operations, starts_in}
+use Rattle.byte_lower.specs.Listed.{operations, routines_in, starts_in}
 use Rattle.byte_lower.specs.Whole.{HasLabels}
 use Rattle.byte_lower.proofs.ListedLemmas.{listed}
 use Rattle.byte_lower.specs.Code.{Carries}
@@ -31,7 +31,7 @@ returns-in-Ok-clause-admitted c =
 
 pub returns-in-Ok-clause-listed : goal.returns-in-Ok-clause-listed
 returns-in-Ok-clause-listed c =
-    subst (λ (code : List Paced). IsListed c.args.layout.now.plan.target (starts_in c.args.program.now.starts) [] (operations c.args.layout.now c.args.program.now) code)
+    subst (λ (code : List Paced). IsListed c.args.layout.now.plan.target (starts_in c.args.program.now.starts) (routines_in c.args.program.now.ops) (operations c.args.layout.now c.args.program.now) code)
     (sym c.in-Ok.ensures) (listed c.args.layout.now c.args.layout.now.chip c.args.layout.now.plan.ram_fits c.args.program.now c.requires)
 
 pub returns-in-Ok-clause-uses : goal.returns-in-Ok-clause-uses
