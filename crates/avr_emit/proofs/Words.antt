@@ -19,7 +19,7 @@ words_append (p ∷ ps) b =
 
 -- and they are as many as both have
 pub size_append : (a b : List Piece) → size_in (a ++ b) ≡ size_in a + size_in b
-size_append [] b = refl
+size_append [] b = omega arith
 size_append (p ∷ ps) b = let h = size_append ps b in omega (arith, h)
 
 -- a test follows what its bit is fetched by

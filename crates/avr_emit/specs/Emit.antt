@@ -60,3 +60,14 @@ latch_taken port b from inverted =
 -- a word becomes what two instructions make of R16 and R17 and the carry, which is 1
 abbrev pub changed_by : ℕ → AvrInsn → AvrInsn → List Piece
 changed_by to low high = Loads 16 to ∷ Loads 17 (to + 1) ∷ Plain (insn.Bset 0) ∷ Plain low ∷ Plain high ∷ word_stored to
+
+-- a word in registers becomes its complement and 1 more, where the sign's bit 7 is 1
+abbrev pub negated : ℕ → ℕ → List Piece
+negated to sign =
+    Plain (insn.Sbrs sign 7) ∷ Plain (insn.Rjmp 4) ∷ Plain (insn.Com to) ∷ Plain (insn.Com (to + 1)) ∷ Plain (insn.Adc to 1) ∷ Plain (insn.Adc (to + 1) 1) ∷ []
+
+-- and one in cells by R16 and R17
+abbrev pub negated_by : ℕ → ℕ → List Piece
+negated_by to sign =
+    Loads 18 sign ∷ Loads 16 to ∷ Loads 17 (to + 1) ∷ Plain (insn.Sbrs 18 7) ∷ Plain (insn.Rjmp 4) ∷ Plain (insn.Com 16) ∷ Plain (insn.Com 17)
+    ∷ Plain (insn.Adc 16 1) ∷ Plain (insn.Adc 17 1) ∷ word_stored to

@@ -290,10 +290,16 @@ fn take_wire(
     requires from { HasPort from }
     ensures { OnOk result (words.new ≡ words.old ++ words_of (wire_taken a from inverted)) }
 {
-    let first = ldi(16, u8::from(inverted));
-    let other = ldi(16, u8::from(!inverted));
     fetch(words, from)?;
-    put(words, &[first, skips(from, false), other, gives(a, 16)])
+    put(
+        words,
+        &[
+            ldi(16, u8::from(inverted)),
+            skips(from, false),
+            ldi(16, u8::from(!inverted)),
+            gives(a, 16),
+        ],
+    )
 }
 
 fn copy_to_byte(

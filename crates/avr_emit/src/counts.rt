@@ -259,7 +259,8 @@ fn copy_wire_words(from: BitSource, inverted: bool) -> u32
                 take_wire_words(from)
             }
         }
-        BitSource::Level { .. } | BitSource::Latch { .. } => take_wire_words(from),
+        BitSource::Level { .. } => take_wire_words(from),
+        BitSource::Latch { .. } => take_wire_words(from),
     }
 }
 
