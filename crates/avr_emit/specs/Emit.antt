@@ -13,7 +13,7 @@ use Rattle.byte_code.specs.declared.prim.Test.TheVariants as test
 use Rattle.avr_mach.specs.declared.insn.AvrInsn.{AvrInsn}
 use Rattle.avr_mach.specs.Words.{size_of}
 use Rattle.avr_mach.specs.declared.insn.AvrInsn.TheVariants as insn
-use Rattle.avr_code.specs.Code.{Piece, Plain, Loads, Stores, Latches, Skips, by_cell, put_wire_if, put_byte_if, word_stored, words_by}
+use Rattle.avr_code.specs.Code.{Piece, Plain, Loads, Gives, Latches, Skips, word_stored, words_by}
 
 -- the words of instructions, in order
 abbrev pub insn_words : List AvrInsn → List ℕ
@@ -46,16 +46,15 @@ HasTested test.Sends = Unit {0}
 HasTested test.Writes = Unit {0}
 HasTested test.NoneWaits = Unit {0}
 
--- where a bit is so, once it was fetched, another becomes so
-abbrev pub put_where : BitSource → Bool → BitDest → Bool → List Piece
-put_where from is (dest.Cell a b) x =
-    by_cell a (Skips from (not is) ∷ Plain (insn.Ldi 20 (as_bit x)) ∷ []) (put_wire_if from is a x) (put_byte_if from is a (in_byte b) x)
-put_where from is (dest.Latch port b) x = Skips from (not is) ∷ Latches port (in_byte b) x ∷ []
-
 -- a bit of a latch takes one that is held
 abbrev pub latch_taken : ℕ → ℕ → BitSource → Bool → List Piece
 latch_taken port b from inverted =
     Skips from inverted ∷ Latches port (in_byte b) true ∷ Skips from (not inverted) ∷ Latches port (in_byte b) false ∷ []
+
+-- and a wire one that was fetched
+abbrev pub wire_given : ℕ → BitSource → Bool → List Piece
+wire_given a from inverted =
+    Plain (insn.Ldi 16 (as_bit inverted)) ∷ Skips from false ∷ Plain (insn.Ldi 16 (as_bit (not inverted))) ∷ Gives a 16 ∷ []
 
 -- a word becomes what two instructions make of R16 and R17 and the carry, which is 1
 abbrev pub changed_by : ℕ → AvrInsn → AvrInsn → List Piece

@@ -6,12 +6,14 @@ ghost use Rattle.byte_code.specs.declared.prim.Test.TheVariants as tests;
 ghost use Rattle.avr_mach.specs.declared.insn.AvrInsn.TheVariants as insn;
 ghost use Rattle.avr_mach.specs.Insn.{FieldsFit};
 ghost use Rattle.avr_code.specs.Code.{put_code, put_wire, put_byte, put_if_code, put_wire_if, put_byte_if, fetch_code, held_code, held_at, wire_taken, copy_wire, copy_byte, copy_code, put_on_flag_code, bit_code, test_code, words_of};
-ghost use Rattle.avr_emit.specs.Emit.{HasPort, HasLatch, HasPorts, HasTested, put_where, latch_taken};
+ghost use Rattle.avr_counts.specs.Tested.{put_where};
+ghost use Rattle.avr_emit.specs.Emit.{HasPort, HasLatch, HasPorts, HasTested, latch_taken, wire_given};
 
 use crate::insns::{
-    fetches, gives, is_wire, latches, ldi, loads, mask_of, mixes, put, skips, status_bit, stores,
+    fetches, gives, latches, ldi, loads, mask_of, mixes, put, skips, status_bit, stores,
     unless_flag,
 };
+use avr_counts::cells::is_wire;
 use avr_mach::AvrInsn;
 use byte_code::prim::{BitDest, BitOp, BitSource, FlagKind, Test};
 use chip_tables::mega16::IO_FIRST;
@@ -280,17 +282,21 @@ fn copy_to_wire(
     }
 }
 
-fn take_wire(
-    words: &mut Words,
-    a: u16,
-    from: BitSource,
-    inverted: bool,
-) -> Result<(), AllocError>
+fn take_wire(words: &mut Words, a: u16, from: BitSource, inverted: bool) -> Result<(), AllocError>
     requires to { a < 32 }
     requires from { HasPort from }
     ensures { OnOk result (words.new ≡ words.old ++ words_of (wire_taken a from inverted)) }
 {
     fetch(words, from)?;
+    give_wire(words, a, from, inverted)
+}
+
+/// The same, once the bit was fetched.
+fn give_wire(words: &mut Words, a: u16, from: BitSource, inverted: bool) -> Result<(), AllocError>
+    requires to { a < 32 }
+    requires from { HasPort from }
+    ensures { OnOk result (words.new ≡ words.old ++ words_of (wire_given a from inverted)) }
+{
     put(
         words,
         &[

@@ -5,7 +5,7 @@ ghost use Rattle.byte_code.specs.Store.{in_byte};
 ghost use Rattle.avr_mach.specs.declared.insn.AvrInsn.TheVariants as insn;
 ghost use Rattle.avr_mach.specs.Insn.{FieldsFit};
 ghost use Rattle.avr_mach.specs.Words.{size_of};
-ghost use Rattle.avr_code.specs.Code.{Loads, Stores, Fetches, Gives, Latches, Skips, Mixes, insn_of, skip_of, io_skip, unless_flag, mask_of, is_wire, status_bit, words_by};
+ghost use Rattle.avr_code.specs.Code.{Loads, Stores, Fetches, Gives, Latches, Skips, Mixes, insn_of, skip_of, io_skip, unless_flag, mask_of, status_bit, words_by};
 ghost use Rattle.avr_emit.specs.Emit.{insn_words, HasPort};
 
 use avr_devices::{latch_address, level_address};
@@ -161,13 +161,6 @@ pub(crate) fn latches(port: u8, b: u8, x: bool) -> AvrInsn
     } else {
         AvrInsn::Cbi { a, b: b % 8 }
     }
-}
-
-/// Whether the cell is a register whose lowest bit is a wire.
-pub(crate) fn is_wire(a: u16) -> bool
-    ensures { result ≡ is_wire a }
-{
-    a == 20 || 2 <= a && a <= 9
 }
 
 /// The mask by which R16 is to take a bit.

@@ -10,6 +10,7 @@ ghost use Rattle.avr_code.specs.Target.{IsWord, ReadsWord, AdmitsWord, AdmitsCom
 ghost use Rattle.avr_emit.specs.Emit.{changed_by, negated, negated_by};
 
 use crate::insns::{ldi, loads, put, stores};
+use avr_counts::cells::{is_nothing, takes_number};
 use avr_mach::AvrInsn;
 use byte_code::prim::{ByteOp, CompareOp, WordOp, WordSource};
 use chip_tables::mega16::IO_FIRST;
@@ -27,20 +28,13 @@ pub(crate) fn byte_op(words: &mut Words, op: ByteOp) -> Result<(), AllocError>
     }
 }
 
-/// Whether LDI takes the cell.
-fn takes_number(a: u16) -> bool
-    ensures { result ≡ takes_number a }
-{
-    16 <= a && a < IO_FIRST
-}
-
 /// A cell becomes a number; R1 holds 0.
 fn set_cell(words: &mut Words, a: u16, x: u8) -> Result<(), AllocError>
     ensures { OnOk result (words.new ≡ words.old ++ words_of (byte_set a x [])) }
 {
     if x == 0 {
         put(words, &[stores(a, 1)])
-    } else if takes_number(a) {
+    } else if takes_number(u32::from(a)) {
         put(words, &[ldi(a as u8, x)])
     } else {
         put(words, &[ldi(16, x), stores(a, 16)])
@@ -166,12 +160,14 @@ fn add_word(words: &mut Words, b: WordSource) -> Result<(), AllocError>
     let high = AvrInsn::Adc { d: 17, r: 19 };
     match b {
         WordSource::Cells(a) => put(words, &[loads(18, a), loads(19, high_of(a)), low, high]),
-        WordSource::Number { low: first, high: 0 } => {
-            put(words, &[ldi(18, first), low, AvrInsn::Adc { d: 17, r: 1 }])
-        }
-        WordSource::Number { low: first, high: second } => {
-            put(words, &[ldi(18, first), ldi(19, second), low, high])
-        }
+        WordSource::Number {
+            low: first,
+            high: 0,
+        } => { put(words, &[ldi(18, first), low, AvrInsn::Adc { d: 17, r: 1 }]) }
+        WordSource::Number {
+            low: first,
+            high: second,
+        } => { put(words, &[ldi(18, first), ldi(19, second), low, high]) }
     }
 }
 
@@ -335,16 +331,6 @@ pub(crate) fn compare_op(words: &mut Words, op: CompareOp) -> Result<(), AllocEr
     }
 }
 
-/// Whether a word is the number 0.
-pub(crate) fn is_nothing(from: WordSource) -> bool
-    ensures { result ≡ is_nothing from }
-{
-    match from {
-        WordSource::Cells(_) => false,
-        WordSource::Number { low, high } => low == 0 && high == 0,
-    }
-}
-
 fn compare(words: &mut Words, a: u16, b: WordSource) -> Result<(), AllocError>
     requires a { IsWord a }
     requires b { ReadsWord b }
@@ -366,7 +352,15 @@ fn compare_with(words: &mut Words, b: WordSource) -> Result<(), AllocError>
                 compare_register(words, a, high)
             } else {
                 let low = AvrInsn::Cp { d: 16, r: 18 };
-                put(words, &[loads(18, a), loads(19, high), low, AvrInsn::Cpc { d: 17, r: 19 }])
+                put(
+                    words,
+                    &[
+                        loads(18, a),
+                        loads(19, high),
+                        low,
+                        AvrInsn::Cpc { d: 17, r: 19 },
+                    ],
+                )
             }
         }
         WordSource::Number { low, high } => {
@@ -374,7 +368,10 @@ fn compare_with(words: &mut Words, b: WordSource) -> Result<(), AllocError>
             if high == 0 {
                 put(words, &[first, AvrInsn::Cpc { d: 17, r: 1 }])
             } else {
-                put(words, &[ldi(18, high), first, AvrInsn::Cpc { d: 17, r: 18 }])
+                put(
+                    words,
+                    &[ldi(18, high), first, AvrInsn::Cpc { d: 17, r: 18 }],
+                )
             }
         }
     }
