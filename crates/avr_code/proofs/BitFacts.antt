@@ -1,11 +1,11 @@
 -- Bits of bytes, one at a time.
-use Rattle.std.proofs.Common.{◌≡◌, ◌≢◌, ◌⊎◌, inl, inr, ℕ, zero, suc, ◌-◌, ◌^◌, ◌<◌, min, max, Bool, true, false, refl, sym, ap, ◌∙◌, arith, eq-eqb, lit<}
-use Rattle.std.proofs.lemmas.Nat.{or_lt}
-use Rattle.std.proofs.lemmas.Nat.Bits.{bit_at_and, bit_at_or, bit_at_not, bit_at-lt}
+use Rattle.std.proofs.Common.{◌≡◌, ◌≢◌, ◌⊎◌, inl, inr, ℕ, zero, suc, ◌+◌, ◌-◌, ◌*◌, ◌/◌, ◌%◌, ◌^◌, ◌<◌, min, max, Bool, true, false, refl, sym, ap, ◌∙◌, arith, eq-eqb, lit<, pow-suc}
+use Rattle.std.proofs.lemmas.Nat.{or_lt, xor_lt}
+use Rattle.std.proofs.lemmas.Nat.Bits.{bit_at_and, bit_at_or, bit_at_xor, bit_at_not, bit_at-lt, bit_at-suc, bit_at_lowest}
 use Rattle.std.proofs.lemmas.Bool.{cases_eq, ne_eqb, true≢false}
 use Rattle.std.specs.Int.{bit_at, w8}
 use Rattle.std.specs.Int.Bits.{and_lt}
-use Rattle.std.specs.Prelude.{◌==◌, bit_and, bit_or}
+use Rattle.std.specs.Prelude.{◌==◌, bit_and, bit_or, bit_xor}
 use Rattle.chip_tables.specs.Bits.{bit_of, as_bit}
 use Rattle.byte_code.specs.Store.{with_bit}
 
@@ -56,3 +56,41 @@ pins_level latch direction levels k low small input =
   where
     whole : (l v d n x y r : ℕ) → r ≡ max x y → x ≡ min l d → y ≡ min v n → n ≡ 1 - d → d ≡ 0 → v < 2 → r ≡ v
     whole l v d n x y r a b c e z low = omega (arith, a, b, c, e, z, low)
+
+twice_power : (k : ℕ) → 2 ^ suc k ≡ 2 * 2 ^ k
+twice_power k = let e = pow-suc 2 k in omega (arith, e)
+
+-- numbers of k bits with the same bits are the same
+same_bits : (k n m : ℕ) → n < 2 ^ k → m < 2 ^ k → ((i : ℕ) → i < k → bit_at n i ≡ bit_at m i) → n ≡ m
+same_bits zero n m a b same = omega (arith, a, b)
+same_bits (suc k) n m a b same =
+    let low : n % 2 ≡ m % 2 = sym (bit_at_lowest n) ∙ same 0 (first k) ∙ bit_at_lowest m in
+    let high : n / 2 ≡ m / 2 =
+    same_bits k (n / 2) (m / 2) (half n k a) (half m k b) (λ i lt. sym (bit_at-suc n i) ∙ same (suc i) (next i k lt) ∙ bit_at-suc m i) in
+    omega (arith, low, high)
+  where
+    first : (k : ℕ) → 0 < suc k
+    first k = omega arith
+
+    next : (i k : ℕ) → i < k → suc i < suc k
+    next i k lt = omega (arith, lt)
+
+    half : (n k : ℕ) → n < 2 ^ suc k → n / 2 < 2 ^ k
+    half n k lt = let e = twice_power k in omega (arith, lt, e)
+
+-- a bit that was set is turned round
+pub turned_clear : (n i : ℕ) → n < 256 → i < 8 → bit_xor (with_bit n i true) (2 ^ i) ≡ with_bit n i false
+turned_clear n i small low =
+    let mask = power_small i low in
+    same_bits 8 _ _ (xor_lt 8 (bit_or n (2 ^ i)) (2 ^ i) (or_lt 8 n (2 ^ i) small mask) mask) (and_lt 8 n (255 - 2 ^ i) small (rest_small (2 ^ i)))
+    (λ j lt.
+    let a = bit_at_xor (bit_or n (2 ^ i)) (2 ^ i) j in
+    let b = bit_at_or n (2 ^ i) j in
+    let c = bit_at_and n (255 - 2 ^ i) j in
+    let d = bit_at_not w8 (2 ^ i) j mask lt in
+    let e = bit_at-lt n j in
+    let f = bit_at-lt (2 ^ i) j in
+    whole (bit_at n j) (bit_at (2 ^ i) j) _ _ _ _ a b c d e f)
+  where
+    whole : (n m x o r d : ℕ) → x ≡ (o + m) % 2 → o ≡ max n m → r ≡ min n d → d ≡ 1 - m → n < 2 → m < 2 → x ≡ r
+    whole n m x o r d a b c e f g = omega (arith, a, b, c, e, f, g)

@@ -1,12 +1,13 @@
 -- What each instruction of the code does to the view of a machine.
 use Rattle.std.proofs.Common.{◌≡◌, ◌≢◌, ⊎_elim, length, eq-eqb, ℕ, zero, suc, ◌+◌, ◌-◌, ◌/◌, ◌%◌, ◌<◌, ◌≤◌, inl, inr, Bool, true, false, Some, None, refl, sym, ap, ap₂, ◌∙◌, subst, arith, lit<}
 use Rattle.std.proofs.Math.ListN.{length-set}
-use Rattle.std.proofs.lemmas.Bool.{cases_eq, lt-ltb, le-ltb, le-leb, ne_eqb}
+use Rattle.std.proofs.lemmas.Bool.{cases_eq, lt-ltb, le-ltb, le-leb, ltb-true, ne_eqb}
 use Rattle.std.specs.Prelude.{◌==◌, ◌&&◌, not, nat_lt, if◌then◌else◌, slice_index, slice_set, bit_and, bit_or, bit_xor}
 use Rattle.chip_tables.specs.Bits.{bit_of, as_bit}
 use Rattle.byte_code.specs.declared.prim.BitSource.{BitSource}
 use Rattle.byte_code.specs.declared.prim.BitSource.TheVariants as bit
-use Rattle.byte_code.specs.Store.{with_bit}
+use Rattle.byte_code.specs.Store.{with_bit, in_byte}
+use Rattle.byte_code.specs.Table.{same}
 use Rattle.chip_tables.specs.declared.outside.Env.{Env}
 use Rattle.avr_devices.specs.Device.{port_of, with_port, pins}
 use Rattle.chip_tables.specs.declared.outside.StuckCause.TheVariants.{PastFlash}
@@ -15,13 +16,13 @@ use Rattle.avr_devices.specs.Part.{mega16}
 use Rattle.avr_mach.specs.declared.insn.AvrInsn.{AvrInsn}
 use Rattle.avr_mach.specs.declared.insn.AvrInsn.TheVariants as insn
 use Rattle.avr_mach.specs.declared.state.AvrState.{AvrState}
-use Rattle.avr_mach.specs.declared.state.Flow.TheVariants.{Next, To}
+use Rattle.avr_mach.specs.declared.state.Flow.TheVariants.{Next, Skip, To}
 use Rattle.avr_mach.specs.Arithmetic.{with_sum, with_difference, difference, with_compared, with_result, with_carry, with_shifted}
-use Rattle.avr_mach.specs.Asks.{insn_ask, lds_ask}
+use Rattle.avr_mach.specs.Asks.{insn_ask, lds_ask, bit_ask}
 use Rattle.avr_mach.specs.Control.{branch, skip_if, obstacle, long_obstacle}
 use Rattle.avr_mach.specs.Exec.{exec}
-use Rattle.avr_mach.specs.Access.{loaded, stored}
-use Rattle.avr_mach.specs.Memory.{lds_read, lds_register, ram_byte, with_ram, io_written}
+use Rattle.avr_mach.specs.Access.{loaded, stored, skip_where}
+use Rattle.avr_mach.specs.Memory.{bit_read, lds_read, lds_register, ram_byte, with_ram, io_written}
 use Rattle.avr_mach.specs.State.{after, act, reg, with_reg, flag, with_flag}
 use Rattle.avr_mach.specs.Transfer.{stored_at}
 use Rattle.avr_devices.specs.DevicePolls.{answer}
@@ -29,7 +30,7 @@ use Rattle.avr_devices.specs.DeviceWrites.{sent_to}
 use Rattle.avr_devices.specs.IoSpace.{register_at, register_in}
 use Rattle.chip_tables.specs.declared.outside.Poll.TheVariants.{NoPoll}
 use Rattle.avr_mach.specs.Words.{size_of}
-use Rattle.avr_code.specs.Code.{Piece, Plain, Loads, Stores, Fetches, Gives, Latches, insn_of}
+use Rattle.avr_code.specs.Code.{Piece, Plain, Loads, Stores, Fetches, Gives, Latches, Skips, Mixes, insn_of, skip_of, io_skip}
 use Rattle.avr_code.specs.Stands.{is_work, IsHeld, IsCell}
 use Rattle.avr_code.proofs.View.{View, see, put, changed, bare, Sees, sees_core, sees_put, set_index}
 
@@ -101,6 +102,17 @@ fetched v (bit.Cell a b) = v.cells a
 fetched v (bit.Level port b) = pins (port_of v.core.devices port) (slice_index v.core.devices.reading.levels port)
 fetched v (bit.Latch port b) = (port_of v.core.devices port).latch
 
+-- whether a bit is 1 where it is tested
+abbrev pub tested : View → BitSource → Bool
+tested v (bit.Cell a b) = bit_of (if nat_lt a 32 then see v a else v.work 18) (in_byte b)
+tested v (bit.Level port b) = bit_of (pins (port_of v.core.devices port) (slice_index v.core.devices.reading.levels port)) (in_byte b)
+tested v (bit.Latch port b) = bit_of (port_of v.core.devices port).latch (in_byte b)
+
+-- all bits of both, or those of both
+abbrev pub mixed : Bool → ℕ → ℕ → ℕ
+mixed true = bit_or
+mixed false = bit_and
+
 -- a bit of a latch becomes so
 abbrev pub latched : AvrState → ℕ → ℕ → Bool → AvrState
 latched c port b x =
@@ -113,6 +125,8 @@ kind_of (Stores a r) = Straight (λ v. record v { cells = changed v.cells a (see
 kind_of (Fetches from) = Straight (λ v. put v 18 (fetched v from)) (size_of (insn_of (Fetches from)))
 kind_of (Gives a r) = Straight (λ v. record v { cells = changed v.cells a (see v r) }) 1
 kind_of (Latches port b x) = Straight (λ v. record v { core = latched v.core port b x }) 2
+kind_of (Skips from is) = SkipIf (λ v. same (tested v from) is)
+kind_of (Mixes d r x) = Straight (λ v. result v (λ c. with_result c d (mixed x (see v d) (see v r)) false) d (mixed x (see v d) (see v r))) 1
 
 -- an I/O register whose writing changes neither registers nor SRAM and sends nothing
 pub record IsQuiet (a : ℕ) : Type 0 where
@@ -155,6 +169,12 @@ FetchFits (bit.Cell a b) = IsHeld a
 FetchFits (bit.Level port b) = port < 4
 FetchFits (bit.Latch port b) = port < 4
 
+-- a register, or the SRAM; and a port of the four
+abbrev pub TestFits : BitSource → Type 0
+TestFits (bit.Cell a b) = Unit {0}
+TestFits (bit.Level port b) = port < 4
+TestFits (bit.Latch port b) = port < 4
+
 abbrev pub PieceFits : Piece → Type 0
 PieceFits (Plain i) = InsnFits i
 PieceFits (Loads r a) = (r < 32) × IsCell a
@@ -162,6 +182,8 @@ PieceFits (Stores a r) = (r < 32) × IsCell a
 PieceFits (Fetches from) = FetchFits from
 PieceFits (Gives a r) = (r < 32) × (a < 32) × (is_work a ≡ false)
 PieceFits (Latches port b x) = (port < 4) × (b < 8)
+PieceFits (Skips from is) = TestFits from
+PieceFits (Mixes d r x) = (d < 32) × (r < 32)
 
 pub held : (a : ℕ) → IsCell a → IsHeld a
 held a (inl low) = inl (low.0, low.1)
@@ -225,6 +247,8 @@ is_near (Stores a r) fit = tt
 is_near (Fetches from) fit = tt
 is_near (Gives a r) fit = tt
 is_near (Latches port b x) fit = tt
+is_near (Skips from is) fit = tt
+is_near (Mixes d r x) fit = tt
 
 -- what an instruction does as its kind says, wherever it stands
 abbrev pub Acts : AvrInsn → Kind → Env → AvrState → View → Type 0
@@ -242,6 +266,10 @@ pub record Does (i : AvrInsn) (kind : Kind) (env : Env) (m : AvrState) (v : View
 
 pub past_ports : (k : ℕ) → suc (suc (suc (suc k))) < 4 → ⊥
 past_ports k low = omega (arith, low)
+
+-- what is put into a cell
+pub cell_put : (v : View) (a x : ℕ) → is_work a ≡ false → put v a x ≡ record v { cells = changed v.cells a x }
+cell_put v a x free = ap (λ b. if b then record v { work = changed v.work a x } else record v { cells = changed v.cells a x }) free
 
 module _ (env : Env) (m : AvrState) (v : View) (h : Sees m v) where
   same_carry : m.carry ≡ v.core.carry
@@ -415,7 +443,7 @@ module _ (env : Env) (m : AvrState) (v : View) (h : Sees m v) where
   cell_seen a free = ap (λ b. if b then v.work a else v.cells a) free
 
   put_cell : (a x : ℕ) → is_work a ≡ false → put v a x ≡ record v { cells = changed v.cells a x }
-  put_cell a x free = ap (λ b. if b then record v { work = changed v.work a x } else record v { cells = changed v.cells a x }) free
+  put_cell a x free = cell_put v a x free
 
   long_free : m.place + 2 ≤ 8192 → long_obstacle mega16 m ≡ None
   long_free inside = ap (λ b. if b then None else Some PastFlash) (lt-ltb (m.place + 1) 8192 (omega (arith, inside)))
@@ -585,6 +613,73 @@ module _ (env : Env) (m : AvrState) (v : View) (h : Sees m v) where
       record { free = refl; asks = refl; acts = (latched m 3 b false, refl, sees_core m v (λ c. latched c 3 b false) refl refl refl h) }
   latches (suc (suc (suc (suc k)))) b x low = absurd (past_ports k low)
 
+  abbrev Skipped : BitSource → Bool → Type 0
+  Skipped from is = Does (insn_of (Skips from is)) (kind_of (Skips from is)) env m v
+
+  not_same : (b : Bool) → not b ≡ same b false
+  not_same true = refl
+  not_same false = refl
+
+  is_same : (b : Bool) → b ≡ same b true
+  is_same true = refl
+  is_same false = refl
+
+  -- a bit of a register
+  skips_reg : (r b : ℕ) (is : Bool) → r < 32 → Does (skip_of is r b) (SkipIf (λ v. same (bit_of (see v r) b) is)) env m v
+  skips_reg r b true low = record { free = refl; asks = refl; acts = ap (λ n. skip_if m (bit_of n b)) (h.file r low) ∙ ap (skip_if m) (is_same _) }
+  skips_reg r b false low = record { free = refl; asks = refl; acts = ap (λ n. skip_if m (not (bit_of n b))) (h.file r low) ∙ ap (skip_if m) (not_same _) }
+
+  skips_cell : (a b : ℕ) (is c : Bool) → nat_lt a 32 ≡ c → Does (if c then skip_of is a (in_byte b) else skip_of is 18 (in_byte b))
+      (SkipIf (λ v. same (bit_of (if c then see v a else v.work 18) (in_byte b)) is)) env m v
+  skips_cell a b is true e = skips_reg a (in_byte b) is (ltb-true a 32 e)
+  skips_cell a b is false e = skips_reg 18 (in_byte b) is (lit< tt)
+
+  skip_is : (t : Bool) → record { state = m; acted = act (if t then Skip else Next) 1 NoPoll None } ≡ skip_if m t
+  skip_is true = refl
+  skip_is false = refl
+
+  -- a bit of an I/O register that asks nobody
+  skips_io : (a b n : ℕ) (w : View → ℕ) (is : Bool) → bit_ask (register_at a) ≡ ask.Nothing →
+      bit_read env m (register_in mega16 a) ≡ record { state = m; answer = answer n NoPoll } → n ≡ w v →
+      Does (io_skip is a b) (SkipIf (λ v. same (bit_of (w v) b) is)) env m v
+  skips_io a b n w true quiet read e = record {
+    free = refl;
+    asks = quiet;
+    acts = ap (λ g. skip_where g b true) read ∙ skip_is (bit_of n b) ∙ ap (λ x. skip_if m (bit_of x b)) e ∙ ap (skip_if m) (is_same _);
+  }
+  skips_io a b n w false quiet read e = record {
+    free = refl;
+    asks = quiet;
+    acts = ap (λ g. skip_where g b false) read ∙ skip_is (not (bit_of n b)) ∙ ap (λ x. skip_if m (not (bit_of x b))) e ∙ ap (skip_if m) (not_same _);
+  }
+
+  skips_level : (port b : ℕ) (is : Bool) → port < 4 → Skipped (bit.Level port b) is
+  skips_level zero b is low =
+      skips_io 0x19 (in_byte b) _ (λ v. pins v.core.devices.port_a (slice_index v.core.devices.reading.levels 0)) is refl refl
+      (ap (λ (c : AvrState). pins c.devices.port_a (slice_index c.devices.reading.levels 0)) h.core)
+  skips_level (suc zero) b is low =
+      skips_io 0x16 (in_byte b) _ (λ v. pins v.core.devices.port_b (slice_index v.core.devices.reading.levels 1)) is refl refl
+      (ap (λ (c : AvrState). pins c.devices.port_b (slice_index c.devices.reading.levels 1)) h.core)
+  skips_level (suc (suc zero)) b is low =
+      skips_io 0x13 (in_byte b) _ (λ v. pins v.core.devices.port_c (slice_index v.core.devices.reading.levels 2)) is refl refl
+      (ap (λ (c : AvrState). pins c.devices.port_c (slice_index c.devices.reading.levels 2)) h.core)
+  skips_level (suc (suc (suc zero))) b is low =
+      skips_io 0x10 (in_byte b) _ (λ v. pins v.core.devices.port_d (slice_index v.core.devices.reading.levels 3)) is refl refl
+      (ap (λ (c : AvrState). pins c.devices.port_d (slice_index c.devices.reading.levels 3)) h.core)
+  skips_level (suc (suc (suc (suc k)))) b is low = absurd (past_ports k low)
+
+  skips_latch : (port b : ℕ) (is : Bool) → port < 4 → Skipped (bit.Latch port b) is
+  skips_latch zero b is low = skips_io 0x1b (in_byte b) _ (λ v. v.core.devices.port_a.latch) is refl refl (ap (λ (c : AvrState). c.devices.port_a.latch) h.core)
+  skips_latch (suc zero) b is low = skips_io 0x18 (in_byte b) _ (λ v. v.core.devices.port_b.latch) is refl refl (ap (λ (c : AvrState). c.devices.port_b.latch) h.core)
+  skips_latch (suc (suc zero)) b is low = skips_io 0x15 (in_byte b) _ (λ v. v.core.devices.port_c.latch) is refl refl (ap (λ (c : AvrState). c.devices.port_c.latch) h.core)
+  skips_latch (suc (suc (suc zero))) b is low = skips_io 0x12 (in_byte b) _ (λ v. v.core.devices.port_d.latch) is refl refl (ap (λ (c : AvrState). c.devices.port_d.latch) h.core)
+  skips_latch (suc (suc (suc (suc k)))) b is low = absurd (past_ports k low)
+
+  skips : (from : BitSource) (is : Bool) → TestFits from → Skipped from is
+  skips (bit.Cell a b) is fit = skips_cell a b is (nat_lt a 32) refl
+  skips (bit.Level port b) is fit = skips_level port b is fit
+  skips (bit.Latch port b) is fit = skips_latch port b is fit
+
   -- each piece does as its kind says
   pub piece_does : (p : Piece) → PieceFits p → m.place + size_of (insn_of p) ≤ 8192 → Does (insn_of p) (kind_of p) env m v
   piece_does (Plain i) fit inside = does i fit inside
@@ -593,3 +688,6 @@ module _ (env : Env) (m : AvrState) (v : View) (h : Sees m v) where
   piece_does (Fetches from) fit inside = fetches from fit inside
   piece_does (Gives a r) fit inside = gives a r fit
   piece_does (Latches port b x) fit inside = latches port b x fit.0
+  piece_does (Skips from is) fit inside = skips from is fit
+  piece_does (Mixes d r true) fit inside = does (insn.Or d r) fit inside
+  piece_does (Mixes d r false) fit inside = does (insn.And d r) fit inside

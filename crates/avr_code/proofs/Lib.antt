@@ -8,7 +8,10 @@ pub mod Standing
 pub mod Sums
 pub mod Compares
 pub mod Primitives
+pub mod Moves
+pub mod Numbers
 pub mod Products
+pub mod OwnRegisters
 pub mod Bits
 pub mod Tables
 pub mod Clearing

@@ -1,17 +1,15 @@
 -- Each primitive that is admitted leads to what the byte machine comes to.
 use Rattle.std.proofs.Common.{◌≡◌, ℕ, suc, ◌+◌, ◌-◌, ◌*◌, ◌%◌, ◌<◌, ◌≤◌, inl, inr, Bool, true, false, List, [], ◌∷◌, Option, Some, None, refl, sym, ap, ap₂, ◌∙◌, subst, arith, lit<, lit≤}
-use Rattle.std.proofs.lemmas.Bool.{lt-ltb, le-ltb, true≢false}
-use Rattle.std.proofs.lemmas.Nat.{xor_of_8}
-use Rattle.std.specs.Prelude.{bit_xor, ◌==◌, ◌&&◌, ◌||◌, not, nat_le, nat_lt, if◌then◌else◌, slice_index}
+use Rattle.std.proofs.lemmas.Bool.{lt-ltb, le-ltb, ltb-true, true≢false}
+use Rattle.std.specs.Prelude.{◌==◌, ◌&&◌, ◌||◌, not, nat_le, nat_lt, if◌then◌else◌, slice_index}
 use Rattle.chip_tables.specs.Bits.{as_bit}
 use Rattle.chip_tables.specs.Outside.{no_reading}
 use Rattle.runs.specs.Chip.{steps_over}
 use Rattle.byte_code.specs.declared.prim.BytePrim.{BytePrim}
-use Rattle.byte_code.specs.declared.prim.BytePrim.TheVariants.{Label, Jump, JumpWhere, Byte, Word, Compare}
+use Rattle.byte_code.specs.declared.prim.BytePrim.TheVariants.{Label, Jump, JumpWhere, Word, Compare}
 use Rattle.byte_code.specs.declared.prim.Test.TheVariants as test
 use Rattle.byte_code.specs.declared.prim.BitSource.{BitSource}
 use Rattle.byte_code.specs.declared.prim.BitSource.TheVariants as bit
-use Rattle.byte_code.specs.declared.prim.ByteOp.TheVariants as bytes
 use Rattle.byte_code.specs.declared.prim.WordOp.TheVariants as words
 use Rattle.byte_code.specs.declared.prim.WordSource.TheVariants as source
 use Rattle.byte_code.specs.declared.prim.CompareOp.TheVariants as compares
@@ -21,7 +19,7 @@ use Rattle.chip_tables.specs.declared.scratch.Scratch.{Scratch}
 use Rattle.byte_code.specs.declared.store.Flag.{Flag}
 use Rattle.byte_code.specs.declared.store.Store.{Store}
 use Rattle.byte_code.specs.declared.state.Bytes.{Bytes}
-use Rattle.byte_code.specs.Store.{cell, with_cell, word_at, word_from, lifted}
+use Rattle.byte_code.specs.Store.{cell, in_byte, with_cell, word_at, word_from, lifted}
 use Rattle.byte_code.specs.Machine.{act, label_place, goes_to}
 use Rattle.byte_code.specs.Table.{plain, same, value_of}
 use Rattle.byte_code.specs.Counts.{IsOfKind}
@@ -33,16 +31,17 @@ use Rattle.avr_mach.specs.Insn.{FieldsFit}
 use Rattle.avr_mach.specs.State.{flag}
 use Rattle.avr_mach.specs.Step.{avr_step, at_place}
 use Rattle.avr_mach.specs.Words.{size_of}
+use Rattle.avr_devices.specs.IoSpace.{latch_address, level_address}
 use Rattle.avr_devices.specs.Part.{mega16}
 use Rattle.target_core.specs.Law.{LeadsFrom, Moves, IsReady, Layout, HasAt}
-use Rattle.avr_code.specs.Code.{Board, Piece, Plain, Loads, Stores, Fetches, Gives, Latches, insn_of, code_of, words_of, size_in, word_count, cycle_count, jump_on, status_bit}
+use Rattle.avr_code.specs.Code.{Board, Piece, Plain, Loads, Stores, Fetches, Gives, Latches, Skips, Mixes, insn_of, skip_of, io_skip, code_of, words_of, size_in, word_count, cycle_count, jump_on, status_bit}
 use Rattle.avr_code.specs.Stands.{IsCell, HasFlag, StandsAt}
 use Rattle.avr_code.specs.Target.{avr_target}
 use Rattle.avr_code.proofs.Compares.{equal_words, below_words, less_words}
-use Rattle.avr_code.proofs.Effects.{InsnFits, PieceFits, FetchFits, result}
+use Rattle.avr_code.proofs.Effects.{InsnFits, PieceFits, FetchFits, TestFits, result}
 use Rattle.avr_code.proofs.Paths.{Paths, At, Fork, Near, Ahead, Lost, bump, paths, AllGood, AllPiecesFit, good_paths}
 use Rattle.avr_code.proofs.Standing.{Has, Alike, ViewStands, view_of, view_seen, to_view, from_view, alike, has_same, has_cell, has_word}
-use Rattle.avr_code.proofs.Sums.{added_low, added_high, more_low, more_high, less_low, less_high, taken_low, taken_high, word_low, word_high}
+use Rattle.avr_code.proofs.Sums.{added_low, added_high, more_low, more_high, less_low, less_high, taken_low, taken_high}
 use Rattle.avr_code.proofs.View.{View, see, changed, moved, set_index}
 use Rattle.avr_code.proofs.Walk.{HasCode, AllFit, code_held}
 
@@ -96,6 +95,26 @@ fetch_fields (bit.Cell a b) (inr high) = let e = high.0 in let f = high.1 in
 fetch_fields (bit.Level port b) fit = (lit< tt, omega arith)
 fetch_fields (bit.Latch port b) fit = (lit< tt, omega arith)
 
+low_bit : (b : ℕ) → in_byte b < 8
+low_bit b = omega arith
+
+io_fields : (a b : ℕ) (is : Bool) → a < 32 → FieldsFit (io_skip is a (in_byte b))
+io_fields a b true low = (low, low_bit b)
+io_fields a b false low = (low, low_bit b)
+
+reg_fields : (r b : ℕ) (is : Bool) → r < 32 → FieldsFit (skip_of is r (in_byte b))
+reg_fields r b true low = (low, low_bit b)
+reg_fields r b false low = (low, low_bit b)
+
+skip_fields : (from : BitSource) (is : Bool) → TestFits from → FieldsFit (insn_of (Skips from is))
+skip_fields (bit.Cell a b) is fit = by (nat_lt a 32) refl
+  where
+    by : (c : Bool) → nat_lt a 32 ≡ c → FieldsFit (if c then skip_of is a (in_byte b) else skip_of is 18 (in_byte b))
+    by true e = reg_fields a b is (ltb-true a 32 e)
+    by false e = reg_fields 18 b is (lit< tt)
+skip_fields (bit.Level port b) is fit = io_fields (level_address port) b is (omega arith)
+skip_fields (bit.Latch port b) is fit = io_fields (latch_address port) b is (omega arith)
+
 pub piece_fields : (p : Piece) → PieceFits p → FieldsFit (insn_of p)
 piece_fields (Plain i) fit = insn_fields i fit
 piece_fields (Loads r a) fit = by fit.1
@@ -108,6 +127,9 @@ piece_fields (Fetches from) fit = fetch_fields from fit
 piece_fields (Gives a r) fit = (fit.1, fit.0)
 piece_fields (Latches port b true) fit = (omega arith, fit.1)
 piece_fields (Latches port b false) fit = (omega arith, fit.1)
+piece_fields (Skips from is) fit = skip_fields from is fit
+piece_fields (Mixes d r true) fit = (fit.0, fit.1)
+piece_fields (Mixes d r false) fit = (fit.0, fit.1)
 piece_fields (Stores a r) fit = by fit.1
   where
     by : IsCell a → FieldsFit (if nat_lt a 32 then insn.Mov a r else insn.Sts a r)
@@ -213,7 +235,7 @@ elsewhere board places w s q h = record { holds = h.holds; settings = h.settings
 six_on : (n a b c d p q : ℕ) → n ≡ p → q ≡ p + (a + (b + (c + (d + (1 + (1 + 0)))))) → n + a + b + c + d + 1 + 1 ≡ q
 six_on n a b c d p q e f = omega (arith, e, f)
 
-abbrev zero_of : ℕ → ℕ → ℕ → ℕ → Bool
+abbrev pub zero_of : ℕ → ℕ → ℕ → ℕ → Bool
 zero_of x z y w = (difference x y 0 == 0) && (difference z w (as_bit (nat_lt x (y + 0))) == 0)
 
 pub equal_flag : (a b c d x z y w : ℕ) → x ≡ a → z ≡ b → y ≡ c → w ≡ d → a < 256 → b < 256 → c < 256 → d < 256 →
@@ -221,12 +243,12 @@ pub equal_flag : (a b c d x z y w : ℕ) → x ≡ a → z ≡ b → y ≡ c →
 equal_flag a b c d x z y w e f g h ha hb hc hd =
     ap₂ (λ x z. zero_of x z y w) e f ∙ ap₂ (λ y w. zero_of a b y w) g h ∙ equal_words a b c d ha hb hc hd
 
-abbrev sign_of : ℕ → ℕ → ℕ → ℕ → Bool
+abbrev pub sign_of : ℕ → ℕ → ℕ → ℕ → Bool
 sign_of x z y w =
     let n = nat_le 128 (difference z w (as_bit (nat_lt x (y + 0)))) in
     differ n (nat_le 128 z && (not (nat_le 128 w) && not n) || not (nat_le 128 z) && (nat_le 128 w && n))
 
-less_flag : (a b c d x z y w : ℕ) → x ≡ a → z ≡ b → y ≡ c → w ≡ d → a < 256 → b < 256 → c < 256 → d < 256 →
+pub less_flag : (a b c d x z y w : ℕ) → x ≡ a → z ≡ b → y ≡ c → w ≡ d → a < 256 → b < 256 → c < 256 → d < 256 →
     sign_of x z y w ≡ nat_lt (lifted (a + b * 256)) (lifted (c + d * 256))
 less_flag a b c d x z y w e f g h ha hb hc hd =
     ap₂ (λ x z. sign_of x z y w) e f ∙ ap₂ (λ y w. sign_of a b y w) g h ∙ less_words a b c d ha hb hc hd
@@ -264,79 +286,6 @@ module _ (board : Board) (lay : Layout) (m : AvrState) (s : Bytes) where
 
   abbrev pub Goes : BytePrim → Type 0
   Goes p = Moves (steps_over (avr_step mega16) lay.flash) (StandsAt board lay.places) m (cycle_count board p) s (act lay.code p s false no_reading)
-
-  pub put_byte : (to x : ℕ) → Ready (Byte (bytes.Put to x)) → StandsAt board lay.places m s → Goes (Byte (bytes.Put to x))
-  put_byte to x ready st = coded (Byte (bytes.Put to x)) (Plain (insn.Ldi 16 x)) (Stores to 16 ∷ []) ready refl refl refl
-      ((lit≤ tt, lit< tt, ready.admitted.1), ((lit< tt, ready.admitted.0), tt)) st
-      (λ v h. (
-        le_more _,
-        record {
-          has = has_cell board lay.places v _ s (alike v _ refl refl refl
-              (λ port. refl) refl refl refl refl) h.has to x x ready.admitted.0 refl refl ready.admitted.1;
-          at = two_on v.core.place 1 (store_size to 16) _ _ h.at ready.next;
-        },
-      ))
-
-  pub copy_byte : (to from : ℕ) → Ready (Byte (bytes.Copy to from)) → StandsAt board lay.places m s → Goes (Byte (bytes.Copy to from))
-  copy_byte to from ready st = coded (Byte (bytes.Copy to from)) (Loads 16 from) (Stores to 16 ∷ []) ready refl refl refl
-      ((lit< tt, ready.admitted.1), ((lit< tt, ready.admitted.0), tt)) st
-      (λ v h. (
-        le_more _,
-        record {
-          has = has_cell board lay.places v _ s (alike v _ refl refl refl (λ port. refl) refl refl refl refl) h.has to (v.cells from)
-              (cell s.store from) ready.admitted.0
-              refl
-              (h.has.holds.cells from ready.admitted.1) (h.has.holds.bytes from);
-          at = two_on v.core.place (load_size 16 from) (store_size to 16) _ _ h.at ready.next;
-        },
-      ))
-
-  pub move_cells : (to : ℕ) (from : ℕ) → Ready (Word (words.Move to (source.Cells from))) → StandsAt board lay.places m s →
-      Goes (Word (words.Move to (source.Cells
-      from)))
-  move_cells to from ready st = coded (Word (words.Move to (source.Cells from))) (Loads 16 from) (Loads 17 (from + 1) ∷ Stores to 16 ∷ Stores (to + 1) 17 ∷
-      []) ready refl refl refl
-      ((lit< tt, ready.admitted.1.0), ((lit< tt, ready.admitted.1.1), ((lit< tt, ready.admitted.0.0), ((lit< tt, ready.admitted.0.1), tt)))) st
-      (λ v h. (
-        le_more _,
-        record {
-          has = has_word board lay.places v _ s (alike v _ refl refl refl (λ port. refl) refl refl refl refl) h.has to _ _
-              (word_from s.store (source.Cells from))
-              ready.admitted.0.0 ready.admitted.0.1 refl
-              (word_low (cell s.store from) (cell s.store (from + 1)) _ (h.has.holds.cells from ready.admitted.1.0) (h.has.holds.bytes from))
-              (word_high (cell s.store from) (cell s.store (from + 1)) _ (h.has.holds.cells (from + 1) ready.admitted.1.1) (h.has.holds.bytes from)
-              (h.has.holds.bytes (from + 1)));
-          at = four_on v.core.place (load_size 16 from) (load_size 17 (from + 1)) (store_size to 16) (store_size (to + 1) 17) _ _ h.at ready.next;
-        },
-      ))
-
-  pub move_number : (to : ℕ) (from_low from_high : ℕ) → Ready (Word (words.Move to (source.Number from_low from_high))) → StandsAt board lay.places m s → Goes
-      (Word (words.Move to (source.Number from_low from_high)))
-  move_number to from_low from_high ready st = coded (Word (words.Move to (source.Number from_low from_high))) (Plain (insn.Ldi 16 from_low))
-      (Plain (insn.Ldi 17 from_high) ∷ Stores to 16 ∷ Stores (to + 1) 17 ∷ []) ready refl refl refl (
-        (lit≤ tt, lit< tt, ready.admitted.1.0),
-        (
-          (lit≤ tt, lit< tt, ready.admitted.1.1),
-          (
-            (lit< tt, ready.admitted.0.0),
-            (
-              (lit< tt, ready.admitted.0.1),
-              tt,
-            ),
-          ),
-        ),
-      ) st
-      (λ v h. (
-        le_more _,
-        record {
-          has = has_word board lay.places v _ s (alike v _ refl refl refl (λ port. refl) refl refl refl refl) h.has to _ _
-              (word_from s.store (source.Number from_low
-              from_high)) ready.admitted.0.0 ready.admitted.0.1 refl
-              (word_low from_low from_high _ refl ready.admitted.1.0)
-              (word_high from_low from_high _ refl ready.admitted.1.0 ready.admitted.1.1);
-          at = four_on v.core.place 1 1 (store_size to 16) (store_size (to + 1) 17) _ _ h.at ready.next;
-        },
-      ))
 
   pub increment : (to : ℕ) → Ready (Word (words.Increment to)) → StandsAt board lay.places m s → Goes (Word (words.Increment to))
   increment to ready st = coded (Word (words.Increment to)) (Loads 16 to) (Loads 17 (to + 1) ∷ Plain (insn.Bset 0) ∷ Plain (insn.Adc 16 1) ∷ Plain (insn.Adc
@@ -450,35 +399,6 @@ module _ (board : Board) (lay : Layout) (m : AvrState) (s : Bytes) where
               (h.has.holds.bytes a) (h.has.holds.bytes b));
           at = eight_on v.core.place (load_size 16 a) (load_size 17 (a + 1)) (load_size 18 b) (load_size 19 (b + 1)) (store_size to 16) (store_size (to + 1)
               17) _ _ h.at ready.next;
-        },
-      ))
-
-  pub add_number : (to a : ℕ) (b_low b_high : ℕ) → Ready (Word (words.Add to a (source.Number b_low b_high))) → StandsAt board lay.places m s → Goes (Word
-      (words.Add to a (source.Number b_low b_high)))
-  add_number to a b_low b_high ready st = coded (Word (words.Add to a (source.Number b_low b_high))) (Loads 16 a) (Loads 17 (a + 1) ∷ Plain (insn.Ldi 18
-      b_low) ∷ Plain (insn.Ldi 19 b_high) ∷ Plain (insn.Add 16 18) ∷ Plain (insn.Adc 17 19) ∷ Stores to 16 ∷ Stores (to + 1) 17 ∷ []) ready refl refl refl (
-        (lit< tt, ready.admitted.1.0),
-        (
-          (lit< tt, ready.admitted.1.1),
-          (
-            (lit≤ tt, lit< tt, ready.admitted.2.0),
-            (
-              (lit≤ tt, lit< tt, ready.admitted.2.1),
-              ((lit< tt, lit< tt), ((lit< tt, lit< tt), ((lit< tt, ready.admitted.0.0), ((lit< tt, ready.admitted.0.1), tt)))),
-            ),
-          ),
-        ),
-      ) st
-      (λ v h. (
-        le_more _,
-        record {
-          has = has_word board lay.places v _ s (alike v _ refl refl refl (λ port. refl) refl refl refl refl) h.has to _ _
-              ((word_at s.store a + word_from s.store
-              (source.Number b_low b_high)) % 65536) ready.admitted.0.0 ready.admitted.0.1 refl
-              (added_low (cell s.store a) (cell s.store (a + 1)) b_low b_high _ _ (h.has.holds.cells a ready.admitted.1.0) refl)
-              (added_high (cell s.store a) (cell s.store (a + 1)) b_low b_high _ _ _ _ (h.has.holds.cells a ready.admitted.1.0) (h.has.holds.cells (a + 1)
-              ready.admitted.1.1) refl refl (h.has.holds.bytes a) ready.admitted.2.0);
-          at = eight_on v.core.place (load_size 16 a) (load_size 17 (a + 1)) 1 1 (store_size to 16) (store_size (to + 1) 17) _ _ h.at ready.next;
         },
       ))
 
@@ -759,125 +679,6 @@ module _ (board : Board) (lay : Layout) (m : AvrState) (s : Bytes) where
           coded (JumpWhere (test.Flag k false) l) (Plain (insn.Brbs (status_bit k) 2)) (Plain (insn.Jmp (slice_index lay.labels l)) ∷ []) ready refl refl refl
           ((status_low k, lit< tt), (named.1, tt)) st (fork false named ready.fits.1 ready.next low)
 
-  pub less_cells : (a : ℕ) (b : ℕ) → Ready (Compare (compares.Less a (source.Cells b))) → StandsAt board lay.places m s → Goes (Compare (compares.Less a
-      (source.Cells b)))
-  less_cells a b ready st = coded (Compare (compares.Less a (source.Cells b))) (Loads 16 a) (Loads 17 (a + 1) ∷ Loads 18 b ∷ Loads 19 (b + 1) ∷
-      Plain (insn.Cp 16 18) ∷ Plain (insn.Cpc 17 19) ∷ []) ready refl refl refl (
-        (lit< tt, ready.admitted.0.0),
-        (
-          (lit< tt, ready.admitted.0.1),
-          (
-            (lit< tt, ready.admitted.1.0),
-            (
-              (lit< tt, ready.admitted.1.1),
-              (
-                (lit< tt, lit< tt),
-                ((lit< tt, lit< tt), tt),
-              ),
-            ),
-          ),
-        ),
-      ) st
-      (λ v h. (
-        le_more _,
-        record {
-          has = has_same board lay.places v _ s (alike v _ refl refl refl (λ port. refl) refl refl refl refl) h.has
-              (Some (record { kind = kind.Less; value = nat_lt (lifted (word_at s.store a)) (lifted (word_from s.store (source.Cells b))) })) (suc s.place)
-              refl
-              (less_flag (cell s.store a) (cell s.store (a + 1)) (cell s.store b) (cell s.store (b + 1)) _ _ _ _ (h.has.holds.cells a ready.admitted.0.0)
-              (h.has.holds.cells (a + 1) ready.admitted.0.1) (h.has.holds.cells b ready.admitted.1.0) (h.has.holds.cells (b + 1) ready.admitted.1.1)
-              (h.has.holds.bytes a) (h.has.holds.bytes (a + 1)) (h.has.holds.bytes b) (h.has.holds.bytes (b + 1)));
-          at = six_on v.core.place (load_size 16 a) (load_size 17 (a + 1)) (load_size 18 b) (load_size 19 (b + 1)) _ _ h.at ready.next;
-        },
-      ))
-
-  pub less_number : (a : ℕ) (b_low b_high : ℕ) → Ready (Compare (compares.Less a (source.Number b_low b_high))) → StandsAt board lay.places m s → Goes (Compare
-      (compares.Less a (source.Number b_low b_high)))
-  less_number a b_low b_high ready st = coded (Compare (compares.Less a (source.Number b_low b_high))) (Loads 16 a) (Loads 17 (a + 1) ∷ Plain (insn.Ldi 18
-      b_low) ∷ Plain (insn.Ldi 19 b_high) ∷ Plain (insn.Cp 16 18) ∷ Plain (insn.Cpc 17 19) ∷ []) ready refl refl refl (
-        (lit< tt, ready.admitted.0.0),
-        (
-          (lit< tt, ready.admitted.0.1),
-          (
-            (lit≤ tt, lit< tt, ready.admitted.1.0),
-            (
-              (lit≤ tt, lit< tt, ready.admitted.1.1),
-              ((lit< tt, lit< tt), ((lit< tt, lit< tt), tt)),
-            ),
-          ),
-        ),
-      ) st
-      (λ v h. (
-        le_more _,
-        record {
-          has = has_same board lay.places v _ s (alike v _ refl refl refl (λ port. refl) refl refl refl refl) h.has
-              (Some (record { kind = kind.Less; value = nat_lt (lifted (word_at s.store a)) (lifted (word_from s.store (source.Number b_low b_high))) }))
-              (suc s.place) refl
-              (less_flag (cell s.store a) (cell s.store (a + 1)) b_low b_high _ _ _ _ (h.has.holds.cells a ready.admitted.0.0) (h.has.holds.cells (a + 1)
-              ready.admitted.0.1) refl refl (h.has.holds.bytes a) (h.has.holds.bytes (a + 1)) ready.admitted.1.0 ready.admitted.1.1);
-          at = six_on v.core.place (load_size 16 a) (load_size 17 (a + 1)) 1 1 _ _ h.at ready.next;
-        },
-      ))
-
-  pub equal_cells : (a : ℕ) (b : ℕ) → Ready (Compare (compares.Equal a (source.Cells b))) → StandsAt board lay.places m s → Goes (Compare (compares.Equal a
-      (source.Cells b)))
-  equal_cells a b ready st = coded (Compare (compares.Equal a (source.Cells b))) (Loads 16 a) (Loads 17 (a + 1) ∷ Loads 18 b ∷ Loads 19 (b + 1) ∷
-      Plain (insn.Cp 16 18) ∷ Plain (insn.Cpc 17 19) ∷ []) ready refl refl refl (
-        (lit< tt, ready.admitted.0.0),
-        (
-          (lit< tt, ready.admitted.0.1),
-          (
-            (lit< tt, ready.admitted.1.0),
-            (
-              (lit< tt, ready.admitted.1.1),
-              (
-                (lit< tt, lit< tt),
-                ((lit< tt, lit< tt), tt),
-              ),
-            ),
-          ),
-        ),
-      ) st
-      (λ v h. (
-        le_more _,
-        record {
-          has = has_same board lay.places v _ s (alike v _ refl refl refl (λ port. refl) refl refl refl refl) h.has
-              (Some (record { kind = kind.Equal; value = word_at s.store a == word_from s.store (source.Cells b) })) (suc s.place) refl
-              (equal_flag (cell s.store a) (cell s.store (a + 1)) (cell s.store b) (cell s.store (b + 1)) _ _ _ _ (h.has.holds.cells a ready.admitted.0.0)
-              (h.has.holds.cells (a + 1) ready.admitted.0.1) (h.has.holds.cells b ready.admitted.1.0) (h.has.holds.cells (b + 1) ready.admitted.1.1)
-              (h.has.holds.bytes a) (h.has.holds.bytes (a + 1)) (h.has.holds.bytes b) (h.has.holds.bytes (b + 1)));
-          at = six_on v.core.place (load_size 16 a) (load_size 17 (a + 1)) (load_size 18 b) (load_size 19 (b + 1)) _ _ h.at ready.next;
-        },
-      ))
-
-  pub equal_number : (a : ℕ) (b_low b_high : ℕ) → Ready (Compare (compares.Equal a (source.Number b_low b_high))) → StandsAt board lay.places m s →
-      Goes (Compare
-      (compares.Equal a (source.Number b_low b_high)))
-  equal_number a b_low b_high ready st = coded (Compare (compares.Equal a (source.Number b_low b_high))) (Loads 16 a) (Loads 17 (a + 1) ∷ Plain (insn.Ldi 18
-      b_low) ∷ Plain (insn.Ldi 19 b_high) ∷ Plain (insn.Cp 16 18) ∷ Plain (insn.Cpc 17 19) ∷ []) ready refl refl refl (
-        (lit< tt, ready.admitted.0.0),
-        (
-          (lit< tt, ready.admitted.0.1),
-          (
-            (lit≤ tt, lit< tt, ready.admitted.1.0),
-            (
-              (lit≤ tt, lit< tt, ready.admitted.1.1),
-              ((lit< tt, lit< tt), ((lit< tt, lit< tt), tt)),
-            ),
-          ),
-        ),
-      ) st
-      (λ v h. (
-        le_more _,
-        record {
-          has = has_same board lay.places v _ s (alike v _ refl refl refl (λ port. refl) refl refl refl refl) h.has
-              (Some (record { kind = kind.Equal; value = word_at s.store a == word_from s.store (source.Number b_low b_high) })) (suc s.place) refl
-              (equal_flag (cell s.store a) (cell s.store (a + 1)) b_low b_high _ _ _ _ (h.has.holds.cells a ready.admitted.0.0) (h.has.holds.cells (a + 1)
-              ready.admitted.0.1) refl refl (h.has.holds.bytes a) (h.has.holds.bytes (a + 1)) ready.admitted.1.0 ready.admitted.1.1);
-          at = six_on v.core.place (load_size 16 a) (load_size 17 (a + 1)) 1 1 _ _ h.at ready.next;
-        },
-      ))
-
   pub below : (a n : ℕ) → Ready (Compare (compares.Below a n)) → StandsAt board lay.places m s → Goes (Compare (compares.Below a n))
   below a n ready st = coded (Compare (compares.Below a n)) (Loads 16 a) (Loads 17 (a + 1) ∷ Plain (insn.Cpi 16 n) ∷ Plain (insn.Cpc 17 1) ∷ []) ready refl
       refl refl
@@ -891,19 +692,5 @@ module _ (board : Board) (lay : Layout) (m : AvrState) (s : Bytes) where
               ready.admitted.0.1)
               ∙ below_words (cell s.store a) (cell s.store (a + 1)) n (v.work 1) (h.has.started ready.begins).zero (h.has.holds.bytes a) ready.admitted.1);
           at = four_on v.core.place (load_size 16 a) (load_size 17 (a + 1)) 1 1 _ _ h.at ready.next;
-        },
-      ))
-
-  pub exclusive_or : (to a b : ℕ) → Ready (Byte (bytes.Xor to a b)) → StandsAt board lay.places m s → Goes (Byte (bytes.Xor to a b))
-  exclusive_or to a b ready st = coded (Byte (bytes.Xor to a b)) (Loads 16 a) (Loads 17 b ∷ Plain (insn.Eor 16 17) ∷ Stores to 16 ∷ []) ready refl refl refl
-      ((lit< tt, ready.admitted.1), ((lit< tt, ready.admitted.2), ((lit< tt, lit< tt), ((lit< tt, ready.admitted.0), tt)))) st
-      (λ v h. (
-        le_more _,
-        record {
-          has = has_cell board lay.places v _ s (alike v _ refl refl refl (λ port. refl) refl refl refl refl) h.has to (bit_xor (v.cells a) (v.cells b))
-              (bit_xor (cell s.store a) (cell s.store b)) ready.admitted.0 refl
-              (ap₂ bit_xor (h.has.holds.cells a ready.admitted.1) (h.has.holds.cells b ready.admitted.2))
-              (xor_of_8 (cell s.store a) (cell s.store b) (h.has.holds.bytes a) (h.has.holds.bytes b));
-          at = four_on v.core.place (load_size 16 a) (load_size 17 b) 1 (store_size to 16) _ _ h.at ready.next;
         },
       ))

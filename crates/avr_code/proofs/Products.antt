@@ -1,7 +1,7 @@
 -- Negations, and the steps of products and quotients.
 use Rattle.std.proofs.Common.{◌⊎◌, inr, ◌≡◌, ◌≢◌, ⊎_elim, eq-eqb, ℕ, suc, ◌+◌, ◌-◌, ◌*◌, ◌/◌, ◌%◌, ◌<◌, ◌≤◌, inl, Bool, true, false, List, [], ◌∷◌, None, refl, sym, ap, ◌∙◌, subst, arith, lit<, lit≤}
 use Rattle.std.proofs.lemmas.Bool.{cases_eq, ne_eqb, le-leb, lt-leb, leb-true, ltb-true, ltb-false}
-use Rattle.std.specs.Prelude.{◌==◌, not, nat_le, nat_lt, if◌then◌else◌, slice_index}
+use Rattle.std.specs.Prelude.{◌==◌, ◌&&◌, not, nat_le, nat_lt, if◌then◌else◌, slice_index}
 use Rattle.chip_tables.specs.Bits.{bit_of, as_bit}
 use Rattle.chip_tables.specs.Outside.{no_reading}
 use Rattle.chip_tables.specs.declared.scratch.Scratch.{Scratch}
@@ -21,18 +21,19 @@ use Rattle.avr_mach.specs.Step.{avr_step}
 use Rattle.avr_mach.specs.Words.{size_of}
 use Rattle.avr_devices.specs.Part.{mega16}
 use Rattle.target_core.specs.Law.{Moves, IsReady, Layout}
-use Rattle.avr_code.specs.Code.{Board, Plain, Loads, Stores, cycle_count}
+use Rattle.avr_code.specs.Code.{Board, Piece, Plain, Loads, Stores, cycle_count}
 use Rattle.avr_code.specs.Stands.{IsCell, StandsAt}
 use Rattle.avr_code.specs.Target.{avr_target}
+use Rattle.avr_code.proofs.Moves.{chosen}
 use Rattle.avr_code.proofs.Primitives.{coded, is_false, is_true, elsewhere, load_size, store_size}
 use Rattle.avr_code.proofs.Standing.{Has, Alike, alike, alike_cells, has_kept, has_word, has_word_by, ViewStands}
 use Rattle.avr_code.proofs.Sums.{carry_is, borrow_is}
 use Rattle.avr_code.proofs.View.{View, changed}
 
-negated_low : (a b x z : ℕ) → x ≡ a → z ≡ 0 → a < 256 → b < 256 → (255 - x + z + 1) % 256 ≡ (65536 - (a + b * 256)) % 65536 % 256
+pub negated_low : (a b x z : ℕ) → x ≡ a → z ≡ 0 → a < 256 → b < 256 → (255 - x + z + 1) % 256 ≡ (65536 - (a + b * 256)) % 65536 % 256
 negated_low a b x z e f ha hb = omega (arith, e, f, ha, hb)
 
-negated_high : (a b x y z : ℕ) → x ≡ a → y ≡ b → z ≡ 0 → a < 256 → b < 256 →
+pub negated_high : (a b x y z : ℕ) → x ≡ a → y ≡ b → z ≡ 0 → a < 256 → b < 256 →
     (255 - y + z + as_bit (nat_lt 255 (255 - x + z + 1))) % 256 ≡ (65536 - (a + b * 256)) % 65536 / 256 % 256
 negated_high a b x y z e f g ha hb = high (as_bit (nat_lt 255 (255 - x + z + 1))) (carry_is (255 - x + z + 1) (omega (arith, e, g, ha)))
   where
@@ -64,11 +65,24 @@ left_inside : (n a b c x y p q : ℕ) → n ≡ p → q ≡ p + (a + (b + (c + (
 left_inside n a b c x y p q e f g one = omega (arith, e, f, g, one)
 
 negated_cost : (a b c x y : ℕ) → a + (b + (c + (2 + (1 + (1 + (1 + (1 + (x + (y + 0))))))))) ≤ a +
-    (b + (c + (1 + (1 + (1 + (1 + (1 + (1 + (x + (y + 0)))))))))) + 0
+    (b + (c + (1 + (1 + (1 + (1 + (1 + (1 + (x + (y + 0))))))))))
 negated_cost a b c x y = omega arith
 
-left_cost : (a b c x y : ℕ) → a + (b + (c + (1 + (2 + (x + (y + 0)))))) ≤ a + (b + (c + (1 + (1 + (1 + (1 + (1 + (1 + (x + (y + 0)))))))))) + 0
+left_cost : (a b c x y : ℕ) → a + (b + (c + (1 + (2 + (x + (y + 0)))))) ≤ a + (b + (c + (1 + (1 + (1 + (1 + (1 + (1 + (x + (y + 0))))))))))
 left_cost a b c x y = omega arith
+
+abbrev pub negated_apart : ℕ → ℕ → List Piece
+negated_apart to sign =
+    Loads 18 sign ∷ Loads 16 to ∷ Loads 17 (to + 1) ∷ Plain (insn.Sbrs 18 7) ∷ Plain (insn.Rjmp 4) ∷ Plain (insn.Com 16) ∷ Plain (insn.Com 17)
+    ∷ Plain (insn.Adc 16 1) ∷ Plain (insn.Adc 17 1) ∷ Stores to 16 ∷ Stores (to + 1) 17 ∷ []
+
+abbrev pub negated_in_place : ℕ → ℕ → List Piece
+negated_in_place to sign =
+    Plain (insn.Sbrs sign 7) ∷ Plain (insn.Rjmp 4) ∷ Plain (insn.Com to) ∷ Plain (insn.Com (to + 1)) ∷ Plain (insn.Adc to 1) ∷ Plain (insn.Adc (to + 1) 1) ∷
+    []
+
+abbrev pub negated_by : ℕ → ℕ → Bool → List Piece
+negated_by to sign b = if b then negated_in_place to sign else negated_apart to sign
 
 either : (P : ℕ → Type 0) (k n : ℕ) → P k → ((n == k) ≡ false → P n) → P n
 either P k n at off = by (cases_eq n k)
@@ -324,11 +338,11 @@ module _ (board : Board) (lay : Layout) (m : AvrState) (s : Bytes) where
       by true = lit≤ tt
       by false = lit≤ tt
 
-  pub negate_if : (to sign : ℕ) → Ready (Word (words.NegateIf to sign)) → StandsAt board lay.places m s → Goes (Word (words.NegateIf to sign))
-  negate_if to sign ready st = coded board lay m s (Word (words.NegateIf to sign)) (Loads 18 sign) (Loads 16 to ∷ Loads 17 (to + 1) ∷
-      Plain (insn.Sbrs 18 7) ∷ Plain
-      (insn.Rjmp 4) ∷ Plain (insn.Com 16) ∷ Plain (insn.Com 17) ∷ Plain (insn.Adc 16 1) ∷ Plain (insn.Adc 17 1) ∷ Stores to 16 ∷ Stores (to + 1) 17 ∷ []) ready
-      refl refl refl (
+  -- where it is worked out in R16 and R17
+  pub negate_apart : (to sign : ℕ) → (nat_lt to 32 && nat_lt sign 32) ≡ false → Ready (Word (words.NegateIf to sign)) → StandsAt board lay.places m s →
+      Goes (Word (words.NegateIf to sign))
+  negate_apart to sign none ready st = chosen board lay m s (Word (words.NegateIf to sign)) (negated_apart to sign) tt ready (ap (negated_by to sign) none)
+      (ap (negated_by to sign) none) refl refl (
         (lit< tt, ready.admitted.1),
         (
           (lit< tt, ready.admitted.0.0),
@@ -350,7 +364,7 @@ module _ (board : Board) (lay : Layout) (m : AvrState) (s : Bytes) where
           ),
         ),
       ) st
-      (λ v h. (
+      (λ next v h. (
         λ t. let z = negated v h t in (
           negated_cost _ _ _ _ _,
           record {
@@ -381,12 +395,12 @@ module _ (board : Board) (lay : Layout) (m : AvrState) (s : Bytes) where
               closed = z.closed;
             };
             at = negated_on v.core.place (load_size 18 sign) (load_size 16 to) (load_size 17 (to + 1)) (store_size to 16)
-                (store_size (to + 1) 17) _ _ h.at ready.next;
+                (store_size (to + 1) 17) _ _ h.at next;
           },
         ),
         λ t. (
-          left_inside v.core.place (load_size 18 sign) (load_size 16 to) (load_size 17 (to + 1)) (store_size to 16) (store_size (to + 1) 17) _ _ h.at
-              ready.next ready.inside (one_or_two to 16),
+          left_inside v.core.place (load_size 18 sign) (load_size 16 to) (load_size 17 (to + 1)) (store_size to 16) (store_size (to + 1) 17) _ _ h.at next
+              ready.inside (one_or_two to 16),
           let z = left v h t in (
             left_cost _ _ _ _ _,
             record {
@@ -416,7 +430,7 @@ module _ (board : Board) (lay : Layout) (m : AvrState) (s : Bytes) where
                 closed = z.closed;
               };
               at = left_on v.core.place (load_size 18 sign) (load_size 16 to) (load_size 17 (to + 1)) (store_size to 16)
-                  (store_size (to + 1) 17) _ _ h.at ready.next;
+                  (store_size (to + 1) 17) _ _ h.at next;
             },
           ),
         ),

@@ -334,9 +334,9 @@ module _ (board : Board) (places : List ℕ) (v w : View) (s : Bytes) (k : Alike
   other_cell f a x b in' high = let top = cell_low a in' in ap (λ t. if t then x else f b) (ne_eqb b a (λ e. omega (arith, e, top, high)))
 
   -- a cell takes a byte
-  pub has_cell : (a x y : ℕ) → IsCell a → w.cells ≡ changed v.cells a x → x ≡ y → y < 256 →
+  pub has_cell_by : (a x y : ℕ) → IsCell a → ((b : ℕ) → w.cells b ≡ changed v.cells a x b) → x ≡ y → y < 256 →
       Has board places w (record s { place = suc s.place; store = record (with_cell s.store a y) { flag = None } })
-  has_cell a x y in' same e small =
+  has_cell_by a x y in' same e small =
       let low : a < 1120 = (let top = cell_low a in' in omega (arith, top)) in
       record {
         holds = record {
@@ -344,8 +344,8 @@ module _ (board : Board) (places : List ℕ) (v w : View) (s : Bytes) (k : Alike
           scratch = st.holds.scratch;
           target = st.holds.target;
           ports = st.holds.ports;
-          cells = λ b inside. ap (λ g. g b) same ∙ cell_after s.store.cells v.cells a x y st.holds.all low e b (st.holds.cells b inside);
-          wires = λ b is. ap (λ g. bit_of (g b) 0) same ∙ wire_after s.store.cells v.cells a x y st.holds.all low b (apart a b in' is) (st.holds.wires b is);
+          cells = λ b inside. same b ∙ cell_after s.store.cells v.cells a x y st.holds.all low e b (st.holds.cells b inside);
+          wires = λ b is. ap (λ c. bit_of c 0) (same b) ∙ wire_after s.store.cells v.cells a x y st.holds.all low b (apart a b in' is) (st.holds.wires b is);
           bytes = byte_after s.store.cells a y st.holds.all low small st.holds.bytes;
           latches = λ port low. k.latches port ∙ st.holds.latches port low;
           reading = k.reading ∙ st.holds.reading;
@@ -355,9 +355,13 @@ module _ (board : Board) (places : List ℕ) (v w : View) (s : Bytes) (k : Alike
         started = started_on;
         flag = tt;
         closed = st.closed;
-        back = λ e. back_kept places v w s.open_call k.stack (ap (λ g. g 1118) same ∙ other_cell v.cells a x 1118 in' (lit≤ tt))
-            (ap (λ g. g 1119) same ∙ other_cell v.cells a x 1119 in' (lit≤ tt)) (st.back e);
+        back = λ e. back_kept places v w s.open_call k.stack (same 1118 ∙ other_cell v.cells a x 1118 in' (lit≤ tt))
+            (same 1119 ∙ other_cell v.cells a x 1119 in' (lit≤ tt)) (st.back e);
       }
+
+  pub has_cell : (a x y : ℕ) → IsCell a → w.cells ≡ changed v.cells a x → x ≡ y → y < 256 →
+      Has board places w (record s { place = suc s.place; store = record (with_cell s.store a y) { flag = None } })
+  has_cell a x y in' same e small = has_cell_by a x y in' (λ b. ap (λ g. g b) same) e small
 
   -- two cells take a word
   pub has_word_by : (a x y n : ℕ) → IsCell a → IsCell (a + 1) → ((b : ℕ) → w.cells b ≡ changed (changed v.cells a x) (a + 1) y b) → x ≡ n % 256 →

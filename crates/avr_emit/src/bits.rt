@@ -1,17 +1,22 @@
 //! The words of what is done to bits, and of jumps.
 
 ghost use Rattle.std.specs.Prelude.{◌≡◌, ◌<◌, ◌≤◌, ◌++◌, OnOk, if◌then◌else◌};
+ghost use Rattle.byte_code.specs.Store.{in_byte};
+ghost use Rattle.byte_code.specs.declared.prim.Test.TheVariants as tests;
 ghost use Rattle.avr_mach.specs.declared.insn.AvrInsn.TheVariants as insn;
 ghost use Rattle.avr_mach.specs.Insn.{FieldsFit};
-ghost use Rattle.avr_code.specs.Code.{put_code, put_if_code, copy_code, put_on_flag_code, bit_code, test_code, words_of};
-ghost use Rattle.avr_emit.specs.Emit.{HasPort, HasLatch, HasPorts, HasTested, copied_to, copied_in_byte};
+ghost use Rattle.avr_code.specs.Code.{put_code, put_wire, put_byte, put_if_code, put_wire_if, put_byte_if, fetch_code, held_code, held_at, wire_taken, copy_wire, copy_byte, copy_code, put_on_flag_code, bit_code, test_code, words_of};
+ghost use Rattle.avr_counts.specs.Tested.{put_where};
+ghost use Rattle.avr_emit.specs.Emit.{HasPort, HasLatch, HasPorts, HasTested, latch_taken, wire_given};
 
 use crate::insns::{
-    fetches, gives, is_wire, latches, ldi, loads, mask_of, masked, put, status_bit, stores, unless,
+    fetches, gives, latches, ldi, loads, mask_of, mixes, put, skips, status_bit, stores,
     unless_flag,
 };
+use avr_counts::cells::is_wire;
 use avr_mach::AvrInsn;
 use byte_code::prim::{BitDest, BitOp, BitSource, FlagKind, Test};
+use chip_tables::mega16::IO_FIRST;
 use std::alloc::AllocError;
 use target_core::words::Words;
 
@@ -47,16 +52,55 @@ fn put_bit(words: &mut Words, to: BitDest, x: bool) -> Result<(), AllocError>
             if address == 20 {
                 put(words, &[ldi(20, u8::from(x))])
             } else if is_wire(address) {
-                put(words, &[ldi(16, u8::from(x)), gives(address, 16)])
+                set_wire(words, address, x)
             } else {
-                let mask = ldi(17, mask_of(x, bit));
-                put(
-                    words,
-                    &[loads(16, address), mask, masked(x), stores(address, 16)],
-                )
+                set_byte(words, address, bit, x)
             }
         }
         BitDest::Latch { port, bit } => put(words, &[latches(port, bit, x)]),
+    }
+}
+
+/// A wire becomes `x`; 0 is that of R1.
+fn set_wire(words: &mut Words, a: u16, x: bool) -> Result<(), AllocError>
+    requires { a < 32 }
+    ensures { OnOk result (words.new ≡ words.old ++ words_of (put_wire a x)) }
+{
+    if x {
+        put(words, &[ldi(16, 1), gives(a, 16)])
+    } else {
+        put(words, &[gives(a, 1)])
+    }
+}
+
+/// A bit of a cell becomes `x`, in its place where the cell is a register.
+fn set_byte(words: &mut Words, a: u16, b: u8, x: bool) -> Result<(), AllocError>
+    ensures { OnOk result (words.new ≡ words.old ++ words_of (put_byte a (in_byte b) x)) }
+{
+    let mask = ldi(17, mask_of(x, b));
+    if a < IO_FIRST {
+        put(words, &[mask, mixes(a as u8, 17, x)])
+    } else {
+        put(
+            words,
+            &[loads(16, a), mask, mixes(16, 17, x), stores(a, 16)],
+        )
+    }
+}
+
+/// A bit of the SRAM is fetched into R18, and any other is tested where it is.
+fn fetch(words: &mut Words, from: BitSource) -> Result<(), AllocError>
+    ensures { OnOk result (words.new ≡ words.old ++ words_of (fetch_code from)) }
+{
+    match from {
+        BitSource::Cell { address, .. } => {
+            if address < IO_FIRST {
+                Ok(())
+            } else {
+                put(words, &[loads(18, address)])
+            }
+        }
+        BitSource::Level { .. } | BitSource::Latch { .. } => Ok(()),
     }
 }
 
@@ -72,24 +116,73 @@ fn put_if(
     requires to { HasLatch to }
     ensures { OnOk result (words.new ≡ words.old ++ words_of (put_if_code from is to x)) }
 {
-    let fetch = fetches(from);
-    let test = unless(from, is);
+    fetch(words, from)?;
+    put_tested(words, from, is, to, x)
+}
+
+/// The same, once the bit that is tested was fetched.
+fn put_tested(
+    words: &mut Words,
+    from: BitSource,
+    is: bool,
+    to: BitDest,
+    x: bool,
+) -> Result<(), AllocError>
+    requires from { HasPort from }
+    requires to { HasLatch to }
+    ensures { OnOk result (words.new ≡ words.old ++ words_of (put_where from is to x)) }
+{
     match to {
         BitDest::Cell { address, bit } => {
             if address == 20 {
-                put(words, &[fetch, test, ldi(20, u8::from(x))])
+                put(words, &[skips(from, !is), ldi(20, u8::from(x))])
             } else if is_wire(address) {
-                put(
-                    words,
-                    &[fetch, ldi(16, u8::from(x)), test, gives(address, 16)],
-                )
+                set_wire_if(words, from, is, address, x)
             } else {
-                let (load, store) = (loads(16, address), stores(address, 16));
-                let mask = ldi(17, mask_of(x, bit));
-                put(words, &[fetch, load, mask, test, masked(x), store])
+                set_byte_if(words, from, is, (address, bit), x)
             }
         }
-        BitDest::Latch { port, bit } => put(words, &[fetch, test, latches(port, bit, x)]),
+        BitDest::Latch { port, bit } => put(words, &[skips(from, !is), latches(port, bit, x)]),
+    }
+}
+
+fn set_wire_if(
+    words: &mut Words,
+    from: BitSource,
+    is: bool,
+    a: u16,
+    x: bool,
+) -> Result<(), AllocError>
+    requires from { HasPort from }
+    requires cell { a < 32 }
+    ensures { OnOk result (words.new ≡ words.old ++ words_of (put_wire_if from is a x)) }
+{
+    let skip = skips(from, !is);
+    if x {
+        put(words, &[ldi(16, 1), skip, gives(a, 16)])
+    } else {
+        put(words, &[skip, gives(a, 1)])
+    }
+}
+
+fn set_byte_if(
+    words: &mut Words,
+    from: BitSource,
+    is: bool,
+    to: (u16, u8),
+    x: bool,
+) -> Result<(), AllocError>
+    requires { HasPort from }
+    ensures { OnOk result (words.new ≡ words.old ++ words_of (put_byte_if from is to.0 (in_byte to.1) x)) }
+{
+    let (a, b) = to;
+    let mask = ldi(17, mask_of(x, b));
+    let skip = skips(from, !is);
+    if a < IO_FIRST {
+        put(words, &[mask, skip, mixes(a as u8, 17, x)])
+    } else {
+        let (load, store) = (loads(16, a), stores(a, 16));
+        put(words, &[load, mask, skip, mixes(16, 17, x), store])
     }
 }
 
@@ -106,42 +199,113 @@ fn copy_bit(
 {
     match to {
         BitDest::Cell { address, bit } => {
-            if address == 20 {
-                copy_to_register(words, 20, from, inverted)
-            } else if is_wire(address) {
-                copy_to_register(words, 16, from, inverted)?;
-                put(words, &[gives(address, 16)])
+            if is_wire(address) {
+                copy_to_wire(words, address, from, inverted)
             } else {
                 copy_to_byte(words, address, bit, from, inverted)
             }
         }
-        BitDest::Latch { port, bit } => put(
-            words,
-            &[
-                fetches(from),
-                unless(from, !inverted),
-                latches(port, bit, true),
-                unless(from, inverted),
-                latches(port, bit, false),
-            ],
-        ),
+        BitDest::Latch { port, bit } => {
+            hold(words, from)?;
+            take_latch(words, port, bit, held(from), inverted)
+        }
     }
 }
 
-fn copy_to_register(
+/// A level or a latch is read once, into R18, and a bit of the SRAM fetched.
+fn hold(words: &mut Words, from: BitSource) -> Result<(), AllocError>
+    requires { HasPort from }
+    ensures { OnOk result (words.new ≡ words.old ++ words_of (held_code from)) }
+{
+    match from {
+        BitSource::Cell { .. } => fetch(words, from),
+        BitSource::Level { .. } | BitSource::Latch { .. } => put(words, &[fetches(from)]),
+    }
+}
+
+/// Where the bit is tested once it was read so.
+fn held(from: BitSource) -> BitSource
+    ensures value { result ≡ held_at from }
+    ensures port { HasPort result }
+{
+    match from {
+        BitSource::Cell { .. } => from,
+        BitSource::Level { bit, .. } | BitSource::Latch { bit, .. } => {
+            BitSource::Cell { address: 18, bit }
+        }
+    }
+}
+
+/// A bit of a latch is set by one test and cleared by another.
+fn take_latch(
     words: &mut Words,
-    d: u8,
+    port: u8,
+    b: u8,
     from: BitSource,
     inverted: bool,
 ) -> Result<(), AllocError>
-    requires low { 16 ≤ d }
-    requires high { d < 32 }
+    requires to { port < 4 }
     requires from { HasPort from }
-    ensures { OnOk result (words.new ≡ words.old ++ words_of (copied_to d from inverted)) }
+    ensures { OnOk result (words.new ≡ words.old ++ words_of (latch_taken port b from inverted)) }
 {
-    let first = ldi(d, u8::from(inverted));
-    let other = ldi(d, u8::from(!inverted));
-    put(words, &[fetches(from), first, unless(from, true), other])
+    put(
+        words,
+        &[
+            skips(from, inverted),
+            latches(port, b, true),
+            skips(from, !inverted),
+            latches(port, b, false),
+        ],
+    )
+}
+
+/// A wire becomes a bit: another wire as it is, and any other bit by way of R16.
+fn copy_to_wire(
+    words: &mut Words,
+    a: u16,
+    from: BitSource,
+    inverted: bool,
+) -> Result<(), AllocError>
+    requires to { a < 32 }
+    requires from { HasPort from }
+    ensures { OnOk result (words.new ≡ words.old ++ words_of (copy_wire a from inverted)) }
+{
+    match from {
+        BitSource::Cell { address, .. } => {
+            if is_wire(address) && !inverted {
+                put(words, &[gives(a, address as u8)])
+            } else {
+                take_wire(words, a, from, inverted)
+            }
+        }
+        BitSource::Level { .. } | BitSource::Latch { .. } => take_wire(words, a, from, inverted),
+    }
+}
+
+fn take_wire(words: &mut Words, a: u16, from: BitSource, inverted: bool) -> Result<(), AllocError>
+    requires to { a < 32 }
+    requires from { HasPort from }
+    ensures { OnOk result (words.new ≡ words.old ++ words_of (wire_taken a from inverted)) }
+{
+    fetch(words, from)?;
+    give_wire(words, a, from, inverted)
+}
+
+/// The same, once the bit was fetched.
+fn give_wire(words: &mut Words, a: u16, from: BitSource, inverted: bool) -> Result<(), AllocError>
+    requires to { a < 32 }
+    requires from { HasPort from }
+    ensures { OnOk result (words.new ≡ words.old ++ words_of (wire_given a from inverted)) }
+{
+    put(
+        words,
+        &[
+            ldi(16, u8::from(inverted)),
+            skips(from, false),
+            ldi(16, u8::from(!inverted)),
+            gives(a, 16),
+        ],
+    )
 }
 
 fn copy_to_byte(
@@ -152,19 +316,17 @@ fn copy_to_byte(
     inverted: bool,
 ) -> Result<(), AllocError>
     requires from { HasPort from }
-    ensures { OnOk result (words.new ≡ words.old ++ words_of (copied_in_byte a b from inverted)) }
+    ensures { OnOk result (words.new ≡ words.old ++ words_of (copy_byte a (in_byte b) from inverted)) }
 {
+    fetch(words, from)?;
     put(
         words,
         &[
-            fetches(from),
             loads(16, a),
             ldi(17, mask_of(true, b)),
-            ldi(19, mask_of(false, b)),
-            unless(from, !inverted),
-            AvrInsn::Or { d: 16, r: 17 },
-            unless(from, inverted),
-            AvrInsn::And { d: 16, r: 19 },
+            mixes(16, 17, true),
+            skips(from, !inverted),
+            AvrInsn::Eor { d: 16, r: 17 },
             stores(a, 16),
         ],
     )
@@ -212,9 +374,22 @@ pub(crate) fn jump_where(words: &mut Words, test: Test, place: u16) -> Result<()
             &[AvrInsn::Dec { d: 21 }, past_jump(1, false), jmp(place)],
         ),
         Test::Flag { kind, is } => put(words, &[past_jump(status_bit(kind), is), jmp(place)]),
-        Test::Bit { from, is } => put(words, &[fetches(from), unless(from, is), jmp(place)]),
+        Test::Bit { from, is } => jump_where_bit(words, from, is, place),
         Test::NoByte | Test::Sends | Test::Writes | Test::NoneWaits => Ok(()),
     }
+}
+
+fn jump_where_bit(
+    words: &mut Words,
+    from: BitSource,
+    is: bool,
+    place: u16,
+) -> Result<(), AllocError>
+    requires { HasPort from }
+    ensures { OnOk result (words.new ≡ words.old ++ words_of (test_code (tests.Bit from is) place)) }
+{
+    fetch(words, from)?;
+    put(words, &[skips(from, !is), jmp(place)])
 }
 
 /// The jump behind it is passed over unless a bit of the status register is so.

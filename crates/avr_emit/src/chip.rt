@@ -7,10 +7,10 @@ ghost use Rattle.avr_code.specs.Target.{Admits};
 ghost use Rattle.avr_emit.specs.Chip.{board_of};
 
 use crate::bits::{bit_op, jmp, jump_where};
-use crate::counts::{more_cycles, word_count};
 use crate::insns::put;
 use crate::numbers::{byte_op, compare_op, word_op};
 use crate::tables::{poll, table};
+use avr_counts::counts::{more_cycles, word_count};
 use avr_mach::{AvrInsn, AvrState};
 use byte_code::prim::{BytePrim, Prim};
 use chip_tables::mega16::{self, FLASH_WORDS};

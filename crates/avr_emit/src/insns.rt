@@ -5,7 +5,7 @@ ghost use Rattle.byte_code.specs.Store.{in_byte};
 ghost use Rattle.avr_mach.specs.declared.insn.AvrInsn.TheVariants as insn;
 ghost use Rattle.avr_mach.specs.Insn.{FieldsFit};
 ghost use Rattle.avr_mach.specs.Words.{size_of};
-ghost use Rattle.avr_code.specs.Code.{Loads, Stores, Fetches, Gives, Latches, insn_of, unless, unless_flag, masked, mask_of, is_wire, status_bit, words_by};
+ghost use Rattle.avr_code.specs.Code.{Loads, Stores, Fetches, Gives, Latches, Skips, Mixes, insn_of, skip_of, io_skip, unless_flag, mask_of, status_bit, words_by};
 ghost use Rattle.avr_emit.specs.Emit.{insn_words, HasPort};
 
 use avr_devices::{latch_address, level_address};
@@ -71,18 +71,46 @@ pub(crate) fn fetches(from: BitSource) -> AvrInsn
     }
 }
 
-/// The next instruction is passed over unless the bit that was fetched is so.
-pub(crate) fn unless(from: BitSource, is: bool) -> AvrInsn
-    ensures value { result ≡ insn_of (unless from is) }
+/// The next instruction is passed over where a bit is so: one of the SRAM in R18, any other where it is.
+pub(crate) fn skips(from: BitSource, is: bool) -> AvrInsn
+    requires { HasPort from }
+    ensures value { result ≡ insn_of (Skips from is) }
     ensures fits { FieldsFit result }
 {
-    let (BitSource::Cell { bit, .. }
-    | BitSource::Level { bit, .. }
-    | BitSource::Latch { bit, .. }) = from;
+    match from {
+        BitSource::Cell { address, bit } => {
+            if address < IO_FIRST {
+                register_skip(is, address as u8, bit)
+            } else {
+                register_skip(is, 18, bit)
+            }
+        }
+        BitSource::Level { port, bit } => io_skip(is, level_address(port), bit),
+        BitSource::Latch { port, bit } => io_skip(is, latch_address(port), bit),
+    }
+}
+
+fn register_skip(is: bool, r: u8, b: u8) -> AvrInsn
+    requires { r < 32 }
+    ensures value { result ≡ skip_of is r (in_byte b) }
+    ensures fits { FieldsFit result }
+{
     if is {
-        AvrInsn::Sbrc { r: 18, b: bit % 8 }
+        AvrInsn::Sbrs { r, b: b % 8 }
     } else {
-        AvrInsn::Sbrs { r: 18, b: bit % 8 }
+        AvrInsn::Sbrc { r, b: b % 8 }
+    }
+}
+
+fn io_skip(is: bool, a: u8, b: u8) -> AvrInsn
+    requires { a < 32 }
+    ensures value { result ≡ io_skip is a (in_byte b) }
+    ensures fits { FieldsFit result }
+{
+    if is {
+        AvrInsn::Sbis { a, b: b % 8 }
+    } else {
+        AvrInsn::Sbic { a, b: b % 8 }
     }
 }
 
@@ -135,13 +163,6 @@ pub(crate) fn latches(port: u8, b: u8, x: bool) -> AvrInsn
     }
 }
 
-/// Whether the cell is a register whose lowest bit is a wire.
-pub(crate) fn is_wire(a: u16) -> bool
-    ensures { result ≡ is_wire a }
-{
-    a == 20 || 2 <= a && a <= 9
-}
-
 /// The mask by which R16 is to take a bit.
 pub(crate) fn mask_of(x: bool, b: u8) -> u8
     ensures { result ≡ mask_of x (in_byte b) }
@@ -153,15 +174,17 @@ pub(crate) fn mask_of(x: bool, b: u8) -> u8
     }
 }
 
-/// The bit in R16 becomes so, by the mask in R17.
-pub(crate) fn masked(x: bool) -> AvrInsn
-    ensures value { result ≡ insn_of (masked x) }
+/// The register `d` takes the bits of the register `r`, or keeps those alone.
+pub(crate) fn mixes(d: u8, r: u8, x: bool) -> AvrInsn
+    requires changed { d < 32 }
+    requires mask { r < 32 }
+    ensures value { result ≡ insn_of (Mixes d r x) }
     ensures fits { FieldsFit result }
 {
     if x {
-        AvrInsn::Or { d: 16, r: 17 }
+        AvrInsn::Or { d, r }
     } else {
-        AvrInsn::And { d: 16, r: 17 }
+        AvrInsn::And { d, r }
     }
 }
 

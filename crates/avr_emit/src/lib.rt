@@ -3,7 +3,6 @@
 
 mod bits;
 pub mod chip;
-mod counts;
 mod insns;
 mod numbers;
 pub mod program;

@@ -1,6 +1,6 @@
 use Rattle.std.proofs.Common.{◌≡◌, ◌≢◌, ℕ, zero, suc, refl}
 use Rattle.avr_code.specs.Code.{Board, start_code, size_in}
-use Rattle.avr_emit.proofs.counts.start_words.Goals as goal
+use Rattle.avr_counts.proofs.counts.start_words.Goals as goal
 
 with_cells : (n : ℕ) → n ≢ 0 → (board : Board) → size_in (start_code board n) ≡ 35
 with_cells zero some board = absurd (some refl)
