@@ -1,0 +1,3 @@
+-- what a reader of the promises must believe
+pub mod Taken
+pub mod Kept
