@@ -1,5 +1,5 @@
 -- The kinds' words and cycles keep to the table of costs.
-use Rattle.std.proofs.Common.{◌≡◌, ℕ, zero, suc, ◌+◌, ◌-◌, ◌*◌, ◌≤◌, Bool, true, false, cond, List, [], ◌∷◌, ◌++◌, length, arith}
+use Rattle.std.proofs.Common.{◌≡◌, ℕ, zero, suc, ◌+◌, ◌-◌, ◌*◌, ◌≤◌, true, false, cond, List, [], ◌∷◌, ◌++◌, length, arith}
 use Rattle.std.proofs.lemmas.List.Sums.{sum_by-cons, sum_by-append}
 use Rattle.chip_tables.specs.declared.target.Target.TheVariants.{Mega16}
 use Rattle.ladder_tree.specs.declared.element.CoilMode.{CoilMode}
@@ -21,7 +21,6 @@ use Rattle.ladder_rules.specs.declared.cost.Column.TheVariants.{Words, Cycles}
 use Rattle.int_code.specs.Kinds as kind
 use Rattle.int_code.specs.Kinds.{Kind}
 use Rattle.int_code.specs.Lowered.{element_kinds, coil_kinds, timer_kinds, counter_kinds, compare_kinds, where_kinds, move_kind, math_kind, rise_kinds, moves_kinds}
-use Rattle.byte_code.specs.Lowered.{Entry}
 use Rattle.chip_cost.specs.Rows.{op_weight, kinds_weight, code_weight, turn_weight}
 use Rattle.avr_cost.specs.Kept.{KeepsItsTable}
 use Rattle.avr_cost.specs.Taken.{kind_words, kind_cycles}
