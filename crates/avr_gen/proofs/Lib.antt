@@ -4,3 +4,4 @@ pub mod Weights
 pub mod Costs
 pub mod Carry
 pub mod Words
+pub mod Needed

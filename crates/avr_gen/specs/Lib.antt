@@ -2,5 +2,6 @@
 pub mod Boards
 pub mod Admission
 pub mod Sums
+pub mod Need
 pub mod Carried
 pub mod Firmware

@@ -90,7 +90,7 @@ fn layout_words(
 
 /// The words of a project's program, which carry the project: the ATmega16 is never stuck, and each time that it asks for a reading it shows how the ladder's
 /// cycle ended, within the cycles that are given with them. `NotBuilt` comes exactly where something that the project does is not built. `CodeFull` comes
-/// only where its code has more words than the flash.
+/// only where its code has more words than the flash, and so never where the rules count the flash as enough.
 pub fn firmware(
     alloc: Global,
     legal: &Legal,

@@ -2,6 +2,7 @@
 
 ghost use Rattle.avr_gen.specs.Admission.{KeptIsAdmitted, KeptIsWhole, PlacedIsWhole, LegalHasBoard};
 ghost use Rattle.avr_gen.specs.Carried.{AssembledCarry};
+ghost use Rattle.avr_gen.specs.Need.{LinkedIsWithinNeed};
 ghost use Rattle.avr_gen.specs.Sums.{SumsFit};
 
 /// What uses only what a layout of the ATmega16 has is admitted: each primitive, and code in which each label that is named stands.
@@ -24,4 +25,9 @@ pub fn sums_fit()
 /// Words of which the assembler says that they run as the code of a project's program does carry the project.
 pub fn assembled_words_carry()
     ensures { AssembledCarry }
+{}
+
+/// And they are no more than the rules count for a project that keeps them.
+pub fn linked_is_within_need()
+    ensures { LinkedIsWithinNeed }
 {}
