@@ -1,0 +1,4 @@
+-- what a reader of the promises must believe
+pub mod Carries
+pub mod Replays
+pub mod Agree
