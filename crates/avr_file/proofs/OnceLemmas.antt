@@ -11,6 +11,7 @@ use Rattle.ladder_rules.specs.Pins.{is_chip}
 use Rattle.ladder_rules.specs.Settings.{settings_of}
 use Rattle.ladder_rules.proofs.RuleLemmas.{settings_there}
 use Rattle.ladder_trace.specs.Simulated.{readings}
+use Rattle.ladder_trace.specs.Trace.{IsTraceOf}
 use Rattle.ladder_trace.specs.declared.trace.Trace.{Trace}
 use Rattle.intel_hex.specs.declared.image.Image.{Image}
 use Rattle.chip_run.specs.Lines.{lines_of}
@@ -20,8 +21,9 @@ use Rattle.chip_run.proofs.OneLemmas.{one_at_pins}
 use Rattle.chip_run.proofs.ExistLemmas.{readings_stand}
 use Rattle.avr_mach.specs.declared.state.AvrState.{AvrState}
 use Rattle.avr_chip.specs.Machine.{avr_chip}
+use Rattle.avr_file.proofs.TraceLemmas.{trace_readings}
 use Rattle.avr_file.specs.Replays.{fresh, ReplaysImage}
-use Rattle.avr_file.specs.Agree.{IsForAvr, IsTraceFor}
+use Rattle.avr_file.specs.Agree.{IsForAvr}
 
 pub same_settings : (p : Project) (a b : Settings) → settings_of p ≡ Some a → settings_of p ≡ Some b → a ≡ b
 same_settings p a b h k = let both : Some a ≡ Some b = sym h ∙ k in cc
@@ -59,11 +61,11 @@ has_settings p h = by (settings_of p) refl (settings_there p h.kept ∙ for_chip
     by (Some s) e k = (s, e)
     by None e k = let clash = sym k ∙ ap is_some e in absurd cc
 
-pub somehow : (p : Project) (image : Image) (t : Trace) → IsForAvr p → IsTraceFor p t
+pub somehow : (p : Project) (image : Image) (t : Trace) → IsForAvr p → IsTraceOf (names_of p.rungs) t
     → (printed : List ℕ) × (end : RunEnd) × ReplaysImage p image t printed end
 somehow p image t h k =
     let settings = has_settings p h in
-    let pins = readings_stand p (readings t.steps) (for_chip p h) h.kept k.readings in
+    let pins = readings_stand p (readings t.steps) (for_chip p h) h.kept (trace_readings (names_of p.rungs) t k) in
     let r = run image t settings.0 pins.0 in (
       lines_of p (names_of p.rungs) avr_chip.view 0 r,
       r.end,

@@ -13,12 +13,11 @@ use Rattle.avr_chip.specs.Machine.{IsReset, avr_chip}
 
 -- The file is the text that is written for an image, is read as it, and its words, which are no more than the project's need, carry the project: from
 -- reset, whatever RAM and registers hold, with the devices set as the project has them.
-pub record CarriesHex (p : Project) (file : List ℕ) (words cycles boot : ℕ) : Type 0 where
+pub record CarriesHex (p : Project) (file : List ℕ) (cycles boot : ℕ) : Type 0 where
   pub image : Image
   pub text : file ≡ hex_text image
   pub read : hex_verdict Mega16 file ≡ Ok image
-  pub count : length image.words ≡ words
-  pub few : words ≤ word_need p
+  pub few : length image.words ≤ word_need p
   pub settings : Settings
   pub set : settings_of p ≡ Some settings
   pub carries : Carries avr_chip (IsReset settings) p image.words cycles boot
