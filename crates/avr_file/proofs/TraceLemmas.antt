@@ -1,11 +1,14 @@
 -- The readings and the EEPROM of a trace are a chip's.
-use Rattle.std.proofs.Common.{◌≡◌, ℕ, zero, suc, ◌<◌, List, [], ◌∷◌, ◌++◌, length, replicate, refl, arith}
-use Rattle.std.specs.Prelude.{ℤ, All, IfSome, slice_index}
-use Rattle.std.proofs.lemmas.List.{get_or_past}
+use Rattle.std.proofs.Common.{◌≡◌, ℕ, zero, suc, ◌+◌, ◌<◌, ◌≤◌, List, [], ◌∷◌, ◌++◌, length, replicate, refl, sym, ap, ◌∙◌, arith}
+use Rattle.std.specs.Prelude.{All, IfSome, slice_index}
+use Rattle.std.specs.List.{sum_by}
+use Rattle.std.proofs.lemmas.List.Sums.{sum_by-cons}
+use Rattle.std.proofs.lemmas.List.{length-append, length-replicate}
 use Rattle.std.proofs.lemmas.List.Elements.{All-nil, All-append, All-replicate, All-head, All-tail}
 use Rattle.chip_tables.specs.declared.mega16.TheConstants.{EEPROM_BYTES}
 use Rattle.ladder_tree.specs.declared.names.Names.{Names}
 use Rattle.ladder_meaning.specs.declared.reading.Reading.{Reading}
+use Rattle.ladder_trace.specs.Line.{most_cycles}
 use Rattle.ladder_trace.specs.Simulated.{readings}
 use Rattle.ladder_trace.specs.Token.{IsReadingOf, IsMeasuredReading}
 use Rattle.ladder_trace.specs.Trace.{IsTraceOf}
@@ -41,3 +44,14 @@ byte_at (b ∷ bs) h (suc a) = byte_at bs (All-tail (λ b. b < 256) b bs h) a
 
 pub trace_bytes : (n : Names) (t : Trace) → IsTraceOf n t → AreBytes t.eeprom EEPROM_BYTES
 trace_bytes n t h = record { all = h.eeprom; each = byte_at t.eeprom h.bytes }
+
+length_readings : (steps : List Step) → length (readings steps) ≡ sum_by (λ s. s.times) steps
+length_readings [] = refl
+length_readings (s ∷ ss) =
+    length-append (replicate s.times s.reading) (readings ss)
+    ∙ ap (λ k. k + length (readings ss)) (length-replicate s.times s.reading)
+    ∙ ap (λ k. s.times + k) (length_readings ss)
+    ∙ sym (sum_by-cons (λ s. s.times) s ss)
+
+pub few_readings : (n : Names) (t : Trace) → IsTraceOf n t → length (readings t.steps) ≤ most_cycles
+few_readings n t h = let count = length_readings t.steps in let few = h.cycles in omega arith

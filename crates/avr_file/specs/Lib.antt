@@ -2,3 +2,5 @@
 pub mod Carries
 pub mod Replays
 pub mod Agree
+-- what only the code's own steps need
+pub mod Run

@@ -1,5 +1,5 @@
 -- What a run answers and leaves.
-use Rattle.std.specs.Prelude.{◌≡◌, ◌⊎◌, ℕ, ◌≤◌, Bool, true, false, List, [], ◌++◌, Some}
+use Rattle.std.specs.Prelude.{◌≡◌, ◌⊎◌, ℕ, ◌≤◌, Bool, true, false, List, [], ◌++◌, Some, None}
 use Rattle.ld_base.specs.Counts.{Rose}
 use Rattle.ld_base.specs.Bytes.{Held, SameHeld, HoldsThen}
 use Rattle.ladder_tree.specs.declared.project.Project.{Project}
@@ -16,6 +16,7 @@ use Rattle.ldmicro_top.specs.Command.{Command, Compile, Simulate, Replay, Other}
 use Rattle.ldmicro_top.specs.Expected.{Expected, is_fault, is_cut, is_end}
 use Rattle.ldmicro_top.specs.Report.{Reports}
 use Rattle.ldmicro_top.specs.StatusLine.{line_of}
+use Rattle.ldmicro_top.specs.Verdict.{code_fault}
 use Rattle.ldmicro_top.specs.World.{World}
 
 abbrev pub IsFrontOf : List ℕ → List ℕ → Type 0
@@ -27,9 +28,11 @@ pub record IsEmitted (project : Project) (code printed : List ℕ) : Type 0 wher
   pub cycles : ℕ
   pub boot : ℕ
   pub carries : Carries project code cycles boot
+  -- the chip has room for what the project may need
+  pub room : code_fault project ≡ None
   pub cycles_few : cycles ≤ cycle_cap project
   pub boot_few : boot ≤ boot_cap project
-  pub report : Reports project cycles boot printed
+  pub report : Reports project code cycles boot printed
 
 -- the source's project and bytes that carry it, and their report
 pub record IsCompiled (name : List ℕ) (held : Held) (code printed : List ℕ) : Type 0 where
