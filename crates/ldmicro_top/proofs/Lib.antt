@@ -13,3 +13,4 @@ pub mod MemberLemmas
 pub mod NamedLemmas
 pub mod RoomLemmas
 pub mod VariableLemmas
+pub mod AvrLemmas

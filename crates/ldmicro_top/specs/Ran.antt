@@ -48,15 +48,19 @@ pub record IsSimulated (name trace : List ℕ) (held : Held) (printed : List ℕ
   pub given : HoldsTrace held trace (names_of project.rungs) steps
   pub lines : printed ≡ simulated project steps
 
--- a line for each finished cycle of the trace, as the source's target runs the file, and how the run ends
-pub record IsReplayed (name file trace : List ℕ) (held : Held) (printed : List ℕ) (ending : Status) : Type 0 where
-  pub project : Project
-  pub source : HoldsProject held name project
+-- a line for each finished cycle of the trace, as the project's target runs the file, and how the run ends
+pub record ReplaysHeld (held : Held) (file trace : List ℕ) (p : Project) (printed : List ℕ) (ending : Status) : Type 0 where
   pub code : List ℕ
   pub read : held file ≡ Some code
   pub steps : Trace
-  pub given : HoldsTrace held trace (names_of project.rungs) steps
-  pub runs : Replays project code steps printed ending
+  pub given : HoldsTrace held trace (names_of p.rungs) steps
+  pub runs : Replays p code steps printed ending
+
+-- that of the source's project
+pub record IsReplayed (name file trace : List ℕ) (held : Held) (printed : List ℕ) (ending : Status) : Type 0 where
+  pub project : Project
+  pub source : HoldsProject held name project
+  pub runs : ReplaysHeld held file trace project printed ending
 
 -- what a command writes to its destination, where it has one, what it prints, and how it ends
 abbrev pub Makes : Command → Held → List ℕ → List ℕ → Status → Type 0

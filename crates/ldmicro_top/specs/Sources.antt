@@ -30,7 +30,7 @@ pub record HoldsTrace (held : Held) (name : List ℕ) (n : Names) (trace : Trace
 pub record HoldsHex (held : Held) (name : List ℕ) (image : Image) : Type 0 where
   pub text : List ℕ
   pub read : held name ≡ Some text
-  pub image : hex_verdict Mega16 text ≡ Ok image
+  pub is : hex_verdict Mega16 text ≡ Ok image
 
 -- the text of a program with these names
 pub record HoldsCode (held : Held) (name : List ℕ) (n : Names) (p : IntProgram) : Type 0 where

@@ -1,14 +1,14 @@
 //! From a project that was judged to the text that is written and its report.
 
-ghost use Rattle.std.specs.Prelude.{◌≡◌, true, false, IfOk};
+ghost use Rattle.std.specs.Prelude.{◌≡◌, None, IfOk};
 ghost use Rattle.std.specs.String.{string_bytes};
-ghost use Rattle.ldmicro_top.specs.HasMachine.{has_machine};
 ghost use Rattle.ldmicro_top.specs.Judged.{IsJudged};
 ghost use Rattle.ldmicro_top.specs.Ran.{IsEmitted};
+ghost use Rattle.ldmicro_top.specs.Verdict.{code_fault};
 
-use crate::machine::has_machine;
 use crate::report::{c_report, report};
 use c_output::write::write_c;
+use chip_tables::Target;
 use interp_code::write::write_interp;
 use ladder_lower::program::lower;
 use ladder_rules::Legal;
@@ -26,20 +26,21 @@ pub struct Compiled {
 
 /// Compiles a project for its target.
 pub fn compile_legal(alloc: Global, legal: &Legal) -> Result<Compiled, AllocError>
-    requires { IsJudged legal.now.names legal.now.project }
+    requires judged { IsJudged legal.now.names legal.now.project }
+    requires room { code_fault legal.now.project ≡ None }
     ensures { IfOk result (λ c. IsEmitted legal.now.project c.code (string_bytes c.report)) }
 {
-    if has_machine(legal.project().target) {
-        compile_interp(alloc, legal)
-    } else {
-        compile_c(alloc, legal)
+    match legal.project().target {
+        Target::AnsiC => compile_c(alloc, legal),
+        Target::Mega16 => compile_avr(alloc, legal),
+        Target::Interp | Target::F628 | Target::F877 => compile_interp(alloc, legal),
     }
 }
 
 /// Lowers a project, and writes its program and its report: each step's promise is the next one's premise.
 fn compile_interp(alloc: Global, legal: &Legal) -> Result<Compiled, AllocError>
     requires judged { IsJudged legal.now.names legal.now.project }
-    requires machine { has_machine legal.now.project.target ≡ true }
+    requires target { legal.now.project.target ≡ Target.Interp }
     ensures { IfOk result (λ c. IsEmitted legal.now.project c.code (string_bytes c.report)) }
 {
     let project = legal.project();
@@ -50,10 +51,20 @@ fn compile_interp(alloc: Global, legal: &Legal) -> Result<Compiled, AllocError>
     Ok(Compiled { code, report })
 }
 
+/// NOT BUILT YET: a stand-in while the rest is proved.
+fn compile_avr(alloc: Global, legal: &Legal) -> Result<Compiled, AllocError>
+    requires judged { IsJudged legal.now.names legal.now.project }
+    requires target { legal.now.project.target ≡ Target.Mega16 }
+    requires room { code_fault legal.now.project ≡ None }
+    ensures { IfOk result (λ c. IsEmitted legal.now.project c.code (string_bytes c.report)) }
+{
+    Err(AllocError)
+}
+
 /// Writes a project's C text and its report.
 fn compile_c(alloc: Global, legal: &Legal) -> Result<Compiled, AllocError>
     requires judged { IsJudged legal.now.names legal.now.project }
-    requires machine { has_machine legal.now.project.target ≡ false }
+    requires target { legal.now.project.target ≡ Target.AnsiC }
     ensures { IfOk result (λ c. IsEmitted legal.now.project c.code (string_bytes c.report)) }
 {
     let names = legal.names();
