@@ -4,3 +4,4 @@ pub mod Replays
 pub mod Agree
 -- what only the code's own steps need
 pub mod Run
+pub mod Written
