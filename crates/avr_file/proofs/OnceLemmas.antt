@@ -9,6 +9,7 @@ use Rattle.ladder_tree.specs.Names.{names_of}
 use Rattle.ladder_tree.specs.declared.project.Project.{Project}
 use Rattle.ladder_rules.specs.Pins.{is_chip}
 use Rattle.ladder_rules.specs.Settings.{settings_of}
+use Rattle.ladder_rules.specs.Verdict.{rule}
 use Rattle.ladder_rules.proofs.RuleLemmas.{settings_there}
 use Rattle.ladder_trace.specs.Simulated.{readings}
 use Rattle.ladder_trace.specs.Trace.{IsTraceOf}
@@ -54,8 +55,8 @@ chip t e = ap is_chip e
 pub for_chip : (p : Project) → IsForAvr p → is_chip p.target ≡ true
 for_chip p h = chip p.target h.target
 
-pub has_settings : (p : Project) → IsForAvr p → (s : Settings) × (settings_of p ≡ Some s)
-has_settings p h = by (settings_of p) refl (settings_there p h.kept ∙ for_chip p h)
+pub has_settings : (p : Project) → p.target ≡ Mega16 → rule p ≡ None → (s : Settings) × (settings_of p ≡ Some s)
+has_settings p e kept = by (settings_of p) refl (settings_there p kept ∙ chip p.target e)
   where
     by : (o : Option Settings) → settings_of p ≡ o → is_some (settings_of p) ≡ true → (s : Settings) × (settings_of p ≡ Some s)
     by (Some s) e k = (s, e)
@@ -64,7 +65,7 @@ has_settings p h = by (settings_of p) refl (settings_there p h.kept ∙ for_chip
 pub somehow : (p : Project) (image : Image) (t : Trace) → IsForAvr p → IsTraceOf (names_of p.rungs) t
     → (printed : List ℕ) × (end : RunEnd) × ReplaysImage p image t printed end
 somehow p image t h k =
-    let settings = has_settings p h in
+    let settings = has_settings p h.target h.kept in
     let pins = readings_stand p (readings t.steps) (for_chip p h) h.kept (trace_readings (names_of p.rungs) t k) in
     let r = run image t settings.0 pins.0 in (
       lines_of p (names_of p.rungs) avr_chip.view 0 r,

@@ -14,3 +14,4 @@ pub mod NamedLemmas
 pub mod RoomLemmas
 pub mod VariableLemmas
 pub mod AvrLemmas
+pub mod BuiltLemmas

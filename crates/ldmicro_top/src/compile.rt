@@ -6,7 +6,9 @@ ghost use Rattle.ldmicro_top.specs.Judged.{IsJudged};
 ghost use Rattle.ldmicro_top.specs.Ran.{IsEmitted};
 ghost use Rattle.ldmicro_top.specs.Verdict.{code_fault};
 
-use crate::report::{c_report, report};
+use crate::kept::plan_of;
+use crate::report::{avr_report, c_report, report};
+use avr_file::write::compile_hex;
 use c_output::write::write_c;
 use chip_tables::Target;
 use interp_code::write::write_interp;
@@ -18,7 +20,7 @@ use texts::Text;
 /// What a project compiles to.
 #[derive(Drop)]
 pub struct Compiled {
-    /// The interpretable text, or the C text.
+    /// The HEX file, the interpretable text or the C text.
     pub code: Text,
     /// What is printed of it.
     pub report: String,
@@ -51,14 +53,22 @@ fn compile_interp(alloc: Global, legal: &Legal) -> Result<Compiled, AllocError>
     Ok(Compiled { code, report })
 }
 
-/// NOT BUILT YET: a stand-in while the rest is proved.
+/// Lowers a project to the words of the ATmega16, and writes its HEX file and its report.
 fn compile_avr(alloc: Global, legal: &Legal) -> Result<Compiled, AllocError>
     requires judged { IsJudged legal.now.names legal.now.project }
     requires target { legal.now.project.target ≡ Target.Mega16 }
     requires room { code_fault legal.now.project ≡ None }
     ensures { IfOk result (λ c. IsEmitted legal.now.project c.code (string_bytes c.report)) }
 {
-    Err(AllocError)
+    let names = legal.names();
+    let program = lower(alloc, legal.project(), names)?;
+    let plan = plan_of(legal);
+    let file = compile_hex(alloc, legal, &program, &plan)?;
+    let report = avr_report(alloc, names, file.words, file.cycles, file.boot)?;
+    Ok(Compiled {
+        code: file.text,
+        report,
+    })
 }
 
 /// Writes a project's C text and its report.
