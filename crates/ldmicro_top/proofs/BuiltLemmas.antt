@@ -164,7 +164,7 @@ unbuilt_one kept (op.Eerd v a) = omega arith
 unbuilt_one kept (op.Eewr w a) = omega arith
 unbuilt_one kept _ = omega arith
 
-built_by : (b : Bool) → cond (not b) 1 0 ≡ 0 → b ≡ true
+built_by : (b : Bool) → ◌≡◌ {A = ℕ} (cond (not b) 1 0) 0 → b ≡ true
 built_by true h = refl
 built_by false h = absurd (omega (arith, h))
 

@@ -1,4 +1,4 @@
-use Rattle.std.proofs.Common.{ℕ, List, ◌++◌, sym, ap, subst, ◌∙◌}
+use Rattle.std.proofs.Common.{ℕ, List, ◌++◌, Err, ap, subst, ◌∙◌}
 use Rattle.avr_file.specs.Run as avr
 use Rattle.ldmicro_top.specs.Replays.{status_of_run}
 use Rattle.ldmicro_top.specs.StatusLine.{line_of}
@@ -26,4 +26,4 @@ returns-in-Err g c =
     let lines = avr.lines_of_run r in
     let ending = status_of_run (avr.end_of_run r) in
     unfinished O.tells (O.fault_count c.args.out.now) (O.fault_count c.print.new.out) (O.written c.args.out.now) (O.written c.print.new.out) lines ending
-    c.in-Err.fault c.status_of.result c.status_of.ensures c.print.ensures.count.later (λ e. c.in-Err.ensures.count.failed (sym e)) c.print.ensures.part
+    c.in-Err.fault c.status_of.result c.status_of.ensures c.print.ensures.count.later (λ e. c.in-Err.ensures.count.failed (ap Err e)) c.print.ensures.part
