@@ -1,7 +1,7 @@
 //! The answer to each command.
 
 use crate::lowered::{Refusal, lowered};
-use crate::run::{cycles, push_refusal};
+use crate::run::cycles;
 use case_script::{Answers, Command};
 use chip_tables::Target;
 use std::alloc::{AllocError, Global};
@@ -52,10 +52,15 @@ impl Ladders {
     }
 }
 
+/// Why a ladder has no primitives.
 fn refused(alloc: Global, refusal: Refusal) -> Result<String, AllocError> {
-    let mut text = String::new(alloc);
-    push_refusal(&mut text, refusal)?;
-    Ok(text)
+    match refusal {
+        Refusal::Project(fault) => format!(in alloc; "refused {fault:?}"),
+        Refusal::Room(fault) => format!(in alloc; "refused {fault:?}"),
+        Refusal::NoChip => String::from_str(alloc, "no chip"),
+        Refusal::NotBuilt => String::from_str(alloc, "not built"),
+        Refusal::Memory(e) => Err(e),
+    }
 }
 
 fn target_of(name: &str) -> Target {

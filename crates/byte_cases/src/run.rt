@@ -3,7 +3,7 @@
 ghost use Rattle.mem_plan.specs.Seen.{IsForChip};
 ghost use Rattle.std.specs.Prelude.{◌≡◌, true};
 
-use crate::lowered::{LadderCode, Refusal, is_chip};
+use crate::lowered::{LadderCode, is_chip};
 use crate::shown::push_view;
 use byte_code::prim::Prims;
 use byte_code::state::ByteState;
@@ -17,17 +17,6 @@ use std::alloc::{AllocError, Global};
 
 /// How many primitives are begun at most from one cycle poll to the next.
 const STEPS_MOST: u32 = 1_000_000;
-
-/// Appends why a ladder has no primitives.
-pub fn push_refusal(text: &mut String, refusal: Refusal) -> Result<(), AllocError> {
-    match refusal {
-        Refusal::Project(fault) => write!(text, "refused {fault:?}"),
-        Refusal::Room(fault) => write!(text, "refused {fault:?}"),
-        Refusal::NoChip => text.push_str("no chip"),
-        Refusal::NotBuilt => text.push_str("not built"),
-        Refusal::Memory(e) => Err(e),
-    }
-}
 
 /// What the cycles of a ladder's primitives show over a trace. They begin on a machine whose cells hold all kinds of bytes.
 pub fn cycles(alloc: Global, ladder: &LadderCode, trace: &[u8]) -> Result<String, AllocError> {
