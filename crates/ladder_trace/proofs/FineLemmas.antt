@@ -93,7 +93,7 @@ analog_fits n place value r h =
 
 -- a byte that is received changes no count
 byte_fits : (n : Names) (value : List ℕ) (r : Reading) → Fits n r → IfSome (give_byte value r) (Fits n)
-byte_fits n value r h = 
+byte_fits n value r h =
     of_map (λ k. k ≤ 255) (Fits n) _ (digits_to 255 value) (digits_within 255 value) (λ byte most. record {
       counts = record { inputs = h.counts.inputs; analog = h.counts.analog };
       measured = record { analog = h.measured.analog; received = omega (arith, most) };

@@ -305,7 +305,6 @@ printable number bytes l short clean h =
 
 -- words that are built
 
-
 -- settings and pins
 
 header_says : (ts : List (List ℕ)) (x : Said HeaderLine) (h : HeaderLine) → unless_blank ts (said_map Header x) ≡ Is (Header h) → x ≡ Is h

@@ -351,8 +351,8 @@ element_steps p i n t l g b f =
         short = d.short;
         free =
             λ x. ap (begins_unbuilt (counting p.site p.target)) (ap tokens d.is)
-                ∙ ap (λ o. begins_unbuilt (counting o p.target) (tokens (replicate d.count 32 ++ element_words l.kind))) e
-                ∙ s.built (counting site.Inside p.target) f.built;
+            ∙ ap (λ o. begins_unbuilt (counting o p.target) (tokens (replicate d.count 32 ++ element_words l.kind))) e
+            ∙ s.built (counting site.Inside p.target) f.built;
         built = refl;
         chip = ap (λ o. is_chipless o (Is (Body (mark.Element (record { line = n; kind = l.kind }))))) g;
         shallow = refl;
