@@ -4,8 +4,8 @@
     python3 examples/check.py PROGRAM
 
 NAME.trace has the readings, and NAME.shown a line a cycle, written by hand. The program's own commands `/s` and `/r` have
-to print these lines, and the runner below, an independent reading of docs/FORMATS.md, has to show them. The last line
-printed is 'N passed, M failed'.
+to print these lines, and the runner below, an independent reading of docs/FORMATS.md, has to show them. An example
+without a device is compiled for the ATmega16 too, and its HEX file has to print the same by `/r`. The last line printed is 'N passed, M failed'.
 """
 import pathlib
 import subprocess
@@ -185,6 +185,42 @@ def check_text(text, trace, wanted):
     return None
 
 
+DEVICES = {"READ_ADC", "SET_PWM", "UART_RECV", "UART_SEND", "PERSIST"}
+# the pins of the ATmega16's four ports, in order
+AVR_PINS = [*range(1, 9), *range(14, 30), *range(33, 41)]
+
+
+def for_avr(text):
+    """The project's text for the ATmega16, each input and output at a pin of its own, or None where a device is used."""
+    head, rungs = text.split("\nPROGRAM\n", 1)
+    words = [line.split() for line in rungs.splitlines() if line.strip()]
+    if any(line[0] in DEVICES for line in words):
+        return None
+    names = dict.fromkeys(line[1] for line in words if line[0] in ("CONTACTS", "COIL") and line[1][0] in "XY")
+    pins = "".join(f"    {name} at {pin}\n" for name, pin in zip(names, AVR_PINS))
+    settings = [line for line in head.splitlines()[2:] if line.split("=")[0] in ("CYCLE", "CRYSTAL", "BAUD")]
+    head = ["LDmicro0.1", "MICRO=Atmel AVR ATmega16 40-PDIP", *settings, "", "IO LIST"]
+    return "\n".join(head) + "\n" + pins + "END\n\nPROGRAM\n" + rungs
+
+
+def check_avr(program, source, trace, shown):
+    """What is wrong with the example on the ATmega16, or None."""
+    text = for_avr(source.read_text())
+    if text is None:
+        return None
+    with tempfile.TemporaryDirectory() as folder:
+        project, dest = pathlib.Path(folder, "avr.ld"), pathlib.Path(folder, "avr.hex")
+        project.write_text(text)
+        report = printed(program, "/c", project, dest)
+        if not report.startswith("target ATmega16\n"):
+            return f"/c for the ATmega16 prints {report}"
+        for words in (["/s", project, trace], ["/r", project, dest, trace]):
+            lines = printed(program, *words)
+            if lines != shown:
+                return f"{words[0]} for the ATmega16 prints {lines}"
+    return None
+
+
 def check(program, source):
     """What is wrong with an example, or None."""
     trace, shown = source.with_suffix(".trace"), source.with_suffix(".shown").read_text()
@@ -201,7 +237,7 @@ def check(program, source):
     operations = text[text.index("\ncode\n") :].count("\n") - 3
     if f"operations {operations}\n" not in report:
         return "the report has another number of operations"
-    return check_text(text, trace.read_text(), shown.splitlines())
+    return check_text(text, trace.read_text(), shown.splitlines()) or check_avr(program, source, trace, shown)
 
 
 def main():

@@ -1,6 +1,7 @@
 //! The written ATmega16 as a run drives it.
 
-ghost use Rattle.std.specs.Prelude.{◌≡◌};
+ghost use Rattle.std.specs.Prelude.{◌≡◌, replicate};
+ghost use Rattle.avr_mach.specs.Reset.{reset_state};
 ghost use Rattle.chip_tables.specs.Bits.{bit_of};
 ghost use Rattle.avr_devices.specs.Device.{port_of};
 ghost use Rattle.avr_chip.specs.Machine.{IsReset, avr_chip};
@@ -38,7 +39,8 @@ fn is_set(byte: u8, b: u8) -> bool
 impl Atmega16 {
     /// The ATmega16 at reset with these bytes in its EEPROM. All registers and the SRAM are 0.
     pub fn reset(eeprom: &[u8; EEPROM_BYTES], settings: &Settings) -> Atmega16
-        ensures { IsReset settings.now eeprom.now result }
+        ensures reset { IsReset settings.now eeprom.now result }
+        ensures zero { result ≡ reset_state (replicate SRAM_BYTES 0) (replicate 32 0) eeprom.now settings.now }
     {
         Atmega16 {
             state: AvrState::reset(&[0; SRAM_BYTES], &[0; 32], eeprom, settings),

@@ -29,7 +29,7 @@ length-history : (p : Project) (s : State) (rs : List Seen) → length (history 
 length-history p s [] = refl
 length-history p s (r ∷ rs) = ap suc (length-history p (cycle p s r).state rs)
 
-seen_pins : (p : Project) (rs : List PinReading) → all_seen p rs ≡ map (seen (names_of p.rungs)) (map (pins_seen p (names_of p.rungs)) rs)
+pub seen_pins : (p : Project) (rs : List PinReading) → all_seen p rs ≡ map (seen (names_of p.rungs)) (map (pins_seen p (names_of p.rungs)) rs)
 seen_pins p [] = refl
 seen_pins p (r ∷ rs) = ap (λ xs. seen (names_of p.rungs) (pins_seen p (names_of p.rungs) r) ∷ xs) (seen_pins p rs)
 

@@ -5,3 +5,5 @@ pub mod ViewLemmas
 pub mod CarryLemmas
 pub mod ShownLemmas
 pub mod AgreeLemmas
+pub mod OneLemmas
+pub mod ExistLemmas

@@ -2,6 +2,7 @@
 
 ghost use Rattle.chip_tables.specs.declared.settings.Settings.{Settings};
 ghost use Rattle.chip_run.specs.Agree.{CarriedAgree};
+ghost use Rattle.chip_run.specs.AtPins.{ReadingsStand, ReadingsStandOnce};
 ghost use Rattle.chip_run.specs.LinesAgree.{LinesAgree};
 ghost use Rattle.chip_run.specs.ShownAgree.{ShownAgree};
 
@@ -21,4 +22,10 @@ pub fn what_is_shown_agrees()
 /// Over words that carry a project, the lines of the run from reset are those of the ladder over the trace.
 pub fn lines_agree<M: ChipMachine>()
     ensures { (settings : Settings) → LinesAgree M.chip (M.resets settings) }
+{}
+
+/// Readings of a chip stand at the pins of a project that keeps the rules in one way, and in no other.
+pub fn readings_stand_at_pins()
+    ensures once { ReadingsStandOnce }
+    ensures stand { ReadingsStand }
 {}

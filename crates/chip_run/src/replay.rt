@@ -20,6 +20,7 @@ use mem_plan::places::Plan;
 use std::alloc::Global;
 
 /// The words in a chip's flash, and the project by whose names the chip's states are shown.
+#[derive(Drop)]
 pub struct Loaded<'a> {
     pub project: &'a Legal,
     pub plan: &'a Plan,

@@ -1,5 +1,5 @@
 -- What one token of a step gives.
-use Rattle.std.specs.Prelude.{◌≡◌, ℕ, ◌+◌, Bool, true, false, pos, List, [], ◌∷◌, length, replicate, slice_set, codes, Option, None, Some, if◌then◌else◌}
+use Rattle.std.specs.Prelude.{◌≡◌, ℕ, ◌+◌, Bool, true, false, ℤ, pos, ◌≤ℤ◌, ◌<◌, All, IfSome, List, [], ◌∷◌, length, replicate, slice_set, codes, Option, None, Some, if◌then◌else◌}
 use Rattle.std.specs.Option.{option_map, option_and_then}
 use Rattle.std.specs.Str.{bytes_eq}
 use Rattle.texts.specs.Digits.{digits_to}
@@ -87,3 +87,13 @@ begun r = record r { rx = None; tx_busy = false; ee_busy = false }
 pub record IsReadingOf (n : Names) (r : Reading) : Type 0 where
   pub inputs : length r.inputs ≡ length n.inputs
   pub analog : length r.analog ≡ length n.analog
+
+-- a number that an analog-to-digital converter of ten bits gives
+pub record IsMeasured (number : ℤ) : Type 0 where
+  pub least : pos 0 ≤ℤ number
+  pub most : number ≤ℤ pos ANALOG_NUMBER
+
+-- numbers of the converter, and a byte where one is received
+pub record IsMeasuredReading (r : Reading) : Type 0 where
+  pub analog : All IsMeasured r.analog
+  pub received : IfSome r.rx (λ byte. byte < 256)

@@ -1,5 +1,5 @@
 -- What a trace says: its steps and its EEPROM, or the first line at which it is refused.
-use Rattle.std.specs.Prelude.{◌≡◌, ℕ, ◌+◌, ◌≤◌, Bool, true, false, List, [], ◌∷◌, length, Option, None, Some, Result, Ok, Err, All, sum_by}
+use Rattle.std.specs.Prelude.{◌≡◌, ℕ, ◌+◌, ◌<◌, ◌≤◌, Bool, true, false, List, [], ◌∷◌, length, Option, None, Some, Result, Ok, Err, All, sum_by}
 use Rattle.texts.specs.Lines.{lines}
 use Rattle.texts.specs.Limits.{judged, is_over}
 use Rattle.texts.specs.declared.limits.TheConstants.{FILE_BYTES}
@@ -7,7 +7,7 @@ use Rattle.ladder_tree.specs.declared.names.Names.{Names}
 use Rattle.ladder_trace.specs.declared.trace.Trace.{Trace}
 use Rattle.ladder_trace.specs.declared.trace.TraceError.{TraceError}
 use Rattle.ladder_trace.specs.declared.trace.TraceError.TheVariants.{Fault, Memory}
-use Rattle.ladder_trace.specs.Token.{IsReadingOf}
+use Rattle.ladder_trace.specs.Token.{IsReadingOf, IsMeasuredReading}
 use Rattle.ladder_trace.specs.Line.{Draft, start, line_says, most_cycles, eeprom_size}
 
 abbrev pub or_refused : {A : Type 0} → ℕ → (Draft → Result A ℕ) → Option Draft → Result A ℕ
@@ -39,8 +39,10 @@ abbrev pub IsCaused : Names → List ℕ → TraceError → Type 0
 IsCaused n text (Fault line) = verdict n text ≡ Err line
 IsCaused n text (Memory e) = Unit {0}
 
--- a trace as it is read: readings of the names, no more cycles than there may be, and a whole EEPROM
+-- a trace as it is read: readings of the names, no more cycles than there may be, and a whole EEPROM of bytes
 pub record IsTraceOf (n : Names) (t : Trace) : Type 0 where
   pub readings : All (λ s. IsReadingOf n s.reading) t.steps
   pub cycles : sum_by (λ s. s.times) t.steps ≤ most_cycles
   pub eeprom : length t.eeprom ≡ eeprom_size
+  pub measured : All (λ s. IsMeasuredReading s.reading) t.steps
+  pub bytes : All (λ byte. byte < 256) t.eeprom

@@ -6,3 +6,4 @@ pub mod WordLemmas
 pub mod ElementLemmas
 pub mod SaidLemmas
 pub mod RangeLemmas
+pub mod KindLemmas

@@ -4,6 +4,7 @@ pub mod Tokens
 pub mod Numbers
 pub mod Operands
 pub mod Words
+pub mod Kinds
 pub mod Elements
 pub mod Targets
 pub mod Header

@@ -1,5 +1,5 @@
 -- The words that elements begin with: how each is spelled, and for which targets it is built.
-use Rattle.std.specs.Prelude.{ℕ, Bool, true, false, List, Option, codes}
+use Rattle.std.specs.Prelude.{ℕ, Bool, true, false, not, ◌&&◌, List, Option, codes}
 use Rattle.std.specs.List.{find}
 use Rattle.std.specs.Str.{bytes_eq}
 use Rattle.chip_tables.specs.declared.target.Target.{Target}
@@ -89,12 +89,21 @@ is_ladder_word Persist = true
 is_ladder_word FormattedString = false
 is_ladder_word PiecewiseLinear = false
 
--- the words that are built for a target
+-- the words of what a device of the chip does
+abbrev pub is_device_word : Word → Bool
+is_device_word ReadAdc = true
+is_device_word SetPwm = true
+is_device_word UartRecv = true
+is_device_word UartSend = true
+is_device_word Persist = true
+is_device_word _ = false
+
+-- the words that are built for a target: for the ATmega16 all but those of devices
 abbrev pub is_built : Target → Word → Bool
 is_built Interp word = is_ladder_word word
 is_built F628 word = false
 is_built F877 word = false
-is_built Mega16 word = false
+is_built Mega16 word = is_ladder_word word && not (is_device_word word)
 is_built AnsiC word = is_ladder_word word
 
 -- the targets that projects are compiled for
@@ -102,5 +111,5 @@ abbrev pub is_target_built : Target → Bool
 is_target_built Interp = true
 is_target_built F628 = false
 is_target_built F877 = false
-is_target_built Mega16 = false
+is_target_built Mega16 = true
 is_target_built AnsiC = true

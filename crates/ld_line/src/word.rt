@@ -1,7 +1,7 @@
 //! The words that elements begin with.
 
 ghost use Rattle.std.specs.Prelude.{◌≡◌};
-ghost use Rattle.ld_line.specs.Words.{spelling, word_of, is_ladder_word, is_built, is_target_built};
+ghost use Rattle.ld_line.specs.Words.{spelling, word_of, is_ladder_word, is_device_word, is_built, is_target_built};
 
 use chip_tables::Target;
 
@@ -147,13 +147,24 @@ fn is_ladder_word(word: Word) -> bool
     !matches!(word, Word::FormattedString | Word::PiecewiseLinear)
 }
 
+/// Whether the word is that of what a device of the chip does.
+fn is_device_word(word: Word) -> bool
+    ensures { result ≡ is_device_word word }
+{
+    matches!(
+        word,
+        Word::ReadAdc | Word::SetPwm | Word::UartRecv | Word::UartSend | Word::Persist
+    )
+}
+
 /// Whether the elements of the word are built for the target.
 pub fn is_built(target: Target, word: Word) -> bool
     ensures { result ≡ is_built target word }
 {
     match target {
         Target::Interp | Target::AnsiC => is_ladder_word(word),
-        Target::F628 | Target::F877 | Target::Mega16 => false,
+        Target::Mega16 => is_ladder_word(word) && !is_device_word(word),
+        Target::F628 | Target::F877 => false,
     }
 }
 
@@ -162,7 +173,7 @@ pub fn is_target_built(target: Target) -> bool
     ensures { result ≡ is_target_built target }
 {
     match target {
-        Target::Interp | Target::AnsiC => true,
-        Target::F628 | Target::F877 | Target::Mega16 => false,
+        Target::Interp | Target::AnsiC | Target::Mega16 => true,
+        Target::F628 | Target::F877 => false,
     }
 }

@@ -13,7 +13,8 @@ use Rattle.ld_line.specs.Range.{is_read_kind}
 use Rattle.ld_line.specs.Rungs.{alone, alone_or, element_by, rung_tokens_say}
 use Rattle.ld_line.specs.Said.{said_map}
 use Rattle.ld_line.specs.Tokens.{is_blank, is_return, behind, tokens, runs, without_returns}
-use Rattle.ld_line.specs.Words.{spelling, word_of, is_ladder_word, is_target_built}
+use Rattle.ld_line.specs.Kinds.{word_for, is_kind_built}
+use Rattle.ld_line.specs.Words.{spelling, word_of, is_built}
 use Rattle.ld_line.specs.declared.said.Said.TheVariants.{Is}
 use Rattle.ld_line.specs.declared.rungs.RungLine.TheVariants as rung
 use Rattle.ld_line.specs.declared.word.Word.{Word}
@@ -24,7 +25,6 @@ use Rattle.ld_text.specs.declared.place.Site.TheVariants as site
 use Rattle.ld_text.specs.Place.{unless_blank, inside, said_in}
 use Rattle.ld_text.specs.Faults.{has_unbuilt_word, begins_unbuilt}
 use Rattle.ld_print.specs.Words as words
-use Rattle.ld_print.specs.Words.{word_for}
 use Rattle.ld_print.proofs.TokenLemmas.{IsToken, short_tokens, short_behind, ends, ends_some, before_same, behind_indent, runs_indent, runs_word, tokens_printed}
 use Rattle.ld_print.proofs.LineLemmas.{not_feed, Fits, clean_both, clean_token, clean_behind}
 use Rattle.ld_print.proofs.KindLemmas.{is_comment, kind_begins, kind_short, kind_read}
@@ -47,28 +47,21 @@ pub record IsPrintable (k : LeafKind) : Type 0 where
   pub read : is_read_kind k ≡ true
   pub text : TextFits k
 
--- what an element's line says, and that its word is built
+-- what an element's line says, and that it begins with no word that is not built where the element is
 
 pub record ElementSaid (k : LeafKind) (line : List ℕ) : Type 0 where
   pub said : (number : ℕ) → said_in site.Inside number line ≡ Is (Body (mark.Element (record { line = number; kind = k })))
-  pub built : (t : Target) → is_target_built t ≡ true → begins_unbuilt (Some t) (tokens line) ≡ false
-
-word_built : (t : Target) (w : Word) → is_target_built t ≡ true → is_ladder_word w ≡ true → has_unbuilt_word (Some t) (Some w) ≡ false
-word_built Interp w h g = ap not g
-word_built F628 w h g = absurd cc
-word_built F877 w h g = absurd cc
-word_built Mega16 w h g = absurd cc
-word_built AnsiC w h g = ap not g
+  pub built : (t : Target) → is_kind_built t k ≡ true → begins_unbuilt t (tokens line) ≡ false
 
 said_by_word : (line token : List ℕ) (rest : List (List ℕ)) (w : Word) (k : LeafKind) → tokens line ≡ token ∷ rest → alone token ≡ None
-    → word_of token ≡ Some w → is_ladder_word w ≡ true → element_of w rest line ≡ Is k → ElementSaid k line
-said_by_word line token rest w k e a h b g = record {
+    → word_of token ≡ Some w → w ≡ word_for k → element_of w rest line ≡ Is k → ElementSaid k line
+said_by_word line token rest w k e a h same g = record {
   said = λ number.
       ap (λ ts. unless_blank ts (inside number (rung_tokens_say ts line))) e
       ∙ ap (λ o. inside number (alone_or o rest (element_by (word_of token) rest line))) a
       ∙ ap (λ o. inside number (element_by o rest line)) h
       ∙ ap (λ s. inside number (said_map rung.Element s)) g;
-  built = λ t f. ap (begins_unbuilt (Some t)) e ∙ ap (has_unbuilt_word (Some t)) h ∙ word_built t w f b;
+  built = λ t f. ap (begins_unbuilt t) e ∙ ap (has_unbuilt_word t) h ∙ ap (λ x. not (is_built t x)) same ∙ ap not f;
 }
 
 comment_word : IsToken (codes "COMMENT")
@@ -104,7 +97,7 @@ plain_said n k p c =
     let w = kind_begins k p.read in
     said_by_word line (spelling (word_for k)) (words.tokens_behind k) (word_for k) k
     (tokens_printed n (spelling (word_for k)) (words.tokens_behind k) w.is_token (short_tokens (words.tokens_behind k) (kind_short k p.read c))) w.no_form
-    w.known w.built (kind_read k p.read c line)
+    w.known refl (kind_read k p.read c line)
 
 -- the line of an element behind blanks
 pub element_said : (n : ℕ) (k : LeafKind) → IsPrintable k → ElementSaid k (replicate n 32 ++ words.element_words k)

@@ -34,7 +34,8 @@ use Rattle.ld_line.specs.Pins.{pin_line, pin_of_line}
 use Rattle.ld_line.specs.Range.{is_read_setting}
 use Rattle.ld_line.specs.Said.{IfIs, bare, said_map, both}
 use Rattle.ld_line.specs.Tokens.{is_blank, is_return, behind, before, tokens, comment_text}
-use Rattle.ld_line.specs.Words.{word_of, is_ladder_word, is_target_built}
+use Rattle.ld_line.specs.Kinds.{is_kind_built}
+use Rattle.ld_line.specs.Words.{word_of, is_target_built}
 use Rattle.ld_line.specs.declared.said.Said.{Said}
 use Rattle.ld_line.specs.declared.said.Said.TheVariants.{Bad, Range, Is}
 use Rattle.ld_line.specs.declared.header.HeaderLine.{HeaderLine}
@@ -51,9 +52,10 @@ use Rattle.ld_text.specs.declared.place.Site.TheVariants as site
 use Rattle.ld_text.specs.Lines.{Line, size_of}
 use Rattle.ld_text.specs.Place.{Place, unless_blank, said_in, said_at, behind_form, behind_said, behind_all}
 use Rattle.ld_text.specs.Place as place
-use Rattle.ld_text.specs.Faults.{is_first, has_unbuilt_word, begins_unbuilt, names_unbuilt, is_bad, is_out_of_range, is_too_deep, is_one_too_many, fault_of, fault_at, first_fault, or_else}
+use Rattle.ld_text.specs.Faults.{is_first, counting, has_unbuilt_word, begins_unbuilt, names_unbuilt, is_bad, is_out_of_range, is_too_deep, is_one_too_many, fault_of, fault_at, first_fault, or_else}
 use Rattle.ld_text.specs.Text.{unblanked, said_by}
 use Rattle.ld_text.proofs.TakenLemmas.{Passes, passes}
+use Rattle.ld_text.proofs.KnowsLemmas.{element_built}
 use Rattle.ld_text.proofs.SaidLemmas.{AllowedAt, allowed, element_worded}
 use Rattle.ld_print.proofs.TokenLemmas.{at_most, ends, ends-append}
 use Rattle.ld_print.specs.Words.{behind_spaces}
@@ -81,11 +83,23 @@ FormFits (Body (mark.Open c)) = Unit {0}
 FormFits (Body mark.End) = Unit {0}
 FormFits (Body (mark.Element l)) = IsPrintable l.kind
 
+-- an element is built for the target whose words count in a rung
+abbrev pub FormBuilt : Option Target → LineForm → Type 0
+FormBuilt target Blank = Unit {0}
+FormBuilt target Magic = Unit {0}
+FormBuilt target (Header h) = Unit {0}
+FormBuilt target (Pins q) = Unit {0}
+FormBuilt target (Body mark.Rung) = Unit {0}
+FormBuilt target (Body (mark.Open c)) = Unit {0}
+FormBuilt target (Body mark.End) = Unit {0}
+FormBuilt target (Body (mark.Element l)) = is_kind_built (counting site.Inside target) l.kind ≡ true
+
 pub record Fine (p : Place) (f : LineForm) : Type 0 where
   pub allowed : AllowedAt p.site f
   pub shallow : is_too_deep p (Is f) ≡ false
   pub few : is_one_too_many p (Is f) ≡ false
   pub fits : FormFits f
+  pub built : FormBuilt p.target f
 
 abbrev pub AllFine : Place → List LineForm → Type 0
 AllFine p [] = p.site ≡ site.Between
@@ -291,14 +305,6 @@ printable number bytes l short clean h =
 
 -- words that are built
 
-word_built : (o : Option Target) (w : Word) → has_unbuilt_word o (Some w) ≡ false → is_ladder_word w ≡ true
-word_built None w h = not-false (is_ladder_word w) h
-word_built (Some Interp) w h = not-false (is_ladder_word w) h
-word_built (Some F628) w h = absurd cc
-word_built (Some F877) w h = absurd cc
-word_built (Some Mega16) w h = absurd cc
-word_built (Some AnsiC) w h = not-false (is_ladder_word w) h
-
 -- settings and pins
 
 header_says : (ts : List (List ℕ)) (x : Said HeaderLine) (h : HeaderLine) → unless_blank ts (said_map Header x) ≡ Is (Header h) → x ≡ Is h
@@ -344,16 +350,12 @@ name_first (n ∷ w ∷ k ∷ []) p h = by (bytes_eq w (codes "at")) h
     by false h = absurd cc
 name_first (n ∷ w ∷ k ∷ t ∷ ts) p h = absurd cc
 
-free_everywhere : (o : Option Target) (w : Option Word) → has_unbuilt_word o w ≡ false → has_unbuilt_word (Some Interp) w ≡ false
-free_everywhere o None h = refl
-free_everywhere o (Some w) h = ap not (word_built o w h)
-
-pin_fits : (o : Option Target) (bytes : List ℕ) (p : pin.PinLine) → begins_unbuilt o (tokens bytes) ≡ false → pin_of_line (tokens bytes) ≡ Is (pins.Pin p)
+pin_fits : (bytes : List ℕ) (p : pin.PinLine) → begins_unbuilt Interp (tokens bytes) ≡ false → pin_of_line (tokens bytes) ≡ Is (pins.Pin p)
     → PinFits p
-pin_fits o bytes p free h =
+pin_fits bytes p free h =
     let r = and_parts (is_name p.name) (nat_le p.pin most_pin) (pins_in_range (tokens bytes) (pins.Pin p) h) in
     let f = name_first (tokens bytes) p h in
-    record { named = r.0; number = at_most p.pin most_pin r.1; free = free_everywhere o (word_of p.name) (sym (ap (begins_unbuilt o) f.is) ∙ free) }
+    record { named = r.0; number = at_most p.pin most_pin r.1; free = sym (ap (begins_unbuilt Interp) f.is) ∙ free }
 
 -- a line that has no fault
 
@@ -384,13 +386,13 @@ not_over n k h = grind (arith, nat_tests)
 -- what is known of a line at a place that is not the first
 record Seen (p : Place) (bytes : List ℕ) (f : LineForm) : Type 0 where
   short : length bytes ≤ LINE_BYTES
-  free : begins_unbuilt p.target (tokens bytes) ≡ false
+  free : begins_unbuilt (counting p.site p.target) (tokens bytes) ≡ false
   built : names_unbuilt (Is f) ≡ false
 
 seen : (p : Place) (bytes : List ℕ) (size : ℕ) (f : LineForm) → is_first p.site ≡ false → Passes p bytes size (Is f) → Seen p bytes f
 seen p bytes size f e all =
-    let k = or_parts (begins_unbuilt p.target (tokens bytes)) (names_unbuilt (Is f))
-    (ap (λ b. not b && (begins_unbuilt p.target (tokens bytes) || names_unbuilt (Is f))) (sym e) ∙ all.built) in
+    let k = or_parts (begins_unbuilt (counting p.site p.target) (tokens bytes)) (names_unbuilt (Is f))
+    (ap (λ b. not b && (begins_unbuilt (counting p.site p.target) (tokens bytes) || names_unbuilt (Is f))) (sym e) ∙ all.built) in
     record { short = not_over LINE_BYTES (length bytes) all.short; free = k.0; built = k.1 }
 
 setting_fits : (p : Place) (number : ℕ) (bytes : List ℕ) (size : ℕ) (h : HeaderLine) → p.site ≡ site.Header → said_in p.site number bytes ≡ Is (Header h)
@@ -417,7 +419,7 @@ form_fits p number bytes size (Header h) a said all clean = setting_fits p numbe
 form_fits p number bytes size (Pins pins.End) a said all clean = tt
 form_fits p number bytes size (Pins (pins.Pin q)) a said all clean =
     let e = at_pins p.site (pins.Pin q) a in
-    pin_fits p.target bytes q (seen p bytes size (Pins (pins.Pin q)) (ap is_first e) all).free (pins_say (tokens bytes) (pin_of_line (tokens bytes))
+    pin_fits bytes q (ap (λ x. begins_unbuilt (counting x p.target) (tokens bytes)) (sym e) ∙ (seen p bytes size (Pins (pins.Pin q)) (ap is_first e) all).free) (pins_say (tokens bytes) (pin_of_line (tokens bytes))
     (pins.Pin q) (ap (λ x. said_in x number bytes) (sym e) ∙ said))
 form_fits p number bytes size (Body mark.Rung) a said all clean = tt
 form_fits p number bytes size (Body (mark.Open c)) a said all clean = tt
@@ -427,6 +429,19 @@ form_fits p number bytes size (Body (mark.Element l)) a said all clean =
     let s = seen p bytes size (Body (mark.Element l)) (ap is_first e) all in
     printable number bytes l s.short clean (ap (λ x. said_in x number bytes) (sym e) ∙ said)
 
+form_built : (p : Place) (number : ℕ) (bytes : List ℕ) (size : ℕ) (f : LineForm) → AllowedAt p.site f → said_in p.site number bytes ≡ Is f
+    → Passes p bytes size (Is f) → FormBuilt p.target f
+form_built p number bytes size Blank a said all = tt
+form_built p number bytes size Magic a said all = tt
+form_built p number bytes size (Header h) a said all = tt
+form_built p number bytes size (Pins q) a said all = tt
+form_built p number bytes size (Body mark.Rung) a said all = tt
+form_built p number bytes size (Body (mark.Open c)) a said all = tt
+form_built p number bytes size (Body mark.End) a said all = tt
+form_built p number bytes size (Body (mark.Element l)) a said all =
+    let e = at_element p.site l a in
+    element_built p number bytes size l e (ap (λ x. said_in x number bytes) (sym e) ∙ said) all
+
 fine_line : (p : Place) (number : ℕ) (l : Line) (f : LineForm) → fault_at p number l ≡ None → said_at p number l ≡ Is f → IsLine l.bytes → Fine p f
 fine_line p number l f h said clean =
     let all = passes p number l.bytes (size_of l) (Is f) (ap (fault_of p number l.bytes (size_of l)) (sym said) ∙ h) in
@@ -435,20 +450,20 @@ fine_line p number l f h said clean =
       allowed = a;
       shallow = all.shallow;
       few = (or_parts (is_one_too_many p (Is f)) _ all.few).0;
-      fits = form_fits p number l.bytes (size_of l) f a
-          said all clean;
+      fits = form_fits p number l.bytes (size_of l) f a said all clean;
+      built = form_built p number l.bytes (size_of l) f a said all;
     }
 
 fine_unsized : (p : Place) (f : LineForm) → Fine p f → Fine (unsized p) f
-fine_unsized p Blank h = record { allowed = h.allowed; shallow = refl; few = refl; fits = h.fits }
-fine_unsized p Magic h = record { allowed = h.allowed; shallow = refl; few = refl; fits = h.fits }
-fine_unsized p (Header g) h = record { allowed = h.allowed; shallow = refl; few = refl; fits = h.fits }
-fine_unsized p (Pins (pins.Pin q)) h = record { allowed = h.allowed; shallow = refl; few = h.few; fits = h.fits }
-fine_unsized p (Pins pins.End) h = record { allowed = h.allowed; shallow = refl; few = refl; fits = h.fits }
-fine_unsized p (Body mark.Rung) h = record { allowed = h.allowed; shallow = refl; few = h.few; fits = h.fits }
-fine_unsized p (Body (mark.Open c)) h = record { allowed = h.allowed; shallow = h.shallow; few = h.few; fits = h.fits }
-fine_unsized p (Body mark.End) h = record { allowed = h.allowed; shallow = refl; few = refl; fits = h.fits }
-fine_unsized p (Body (mark.Element l)) h = record { allowed = h.allowed; shallow = refl; few = h.few; fits = h.fits }
+fine_unsized p Blank h = record { allowed = h.allowed; shallow = refl; few = refl; fits = h.fits; built = h.built }
+fine_unsized p Magic h = record { allowed = h.allowed; shallow = refl; few = refl; fits = h.fits; built = h.built }
+fine_unsized p (Header g) h = record { allowed = h.allowed; shallow = refl; few = refl; fits = h.fits; built = h.built }
+fine_unsized p (Pins (pins.Pin q)) h = record { allowed = h.allowed; shallow = refl; few = h.few; fits = h.fits; built = h.built }
+fine_unsized p (Pins pins.End) h = record { allowed = h.allowed; shallow = refl; few = refl; fits = h.fits; built = h.built }
+fine_unsized p (Body mark.Rung) h = record { allowed = h.allowed; shallow = refl; few = h.few; fits = h.fits; built = h.built }
+fine_unsized p (Body (mark.Open c)) h = record { allowed = h.allowed; shallow = h.shallow; few = h.few; fits = h.fits; built = h.built }
+fine_unsized p (Body mark.End) h = record { allowed = h.allowed; shallow = refl; few = refl; fits = h.fits; built = h.built }
+fine_unsized p (Body (mark.Element l)) h = record { allowed = h.allowed; shallow = refl; few = h.few; fits = h.fits; built = h.built }
 
 end_unsized : (p : Place) (b : Bool) → unsized (if b then record p { site = site.Between } else record p { depth = p.depth - 1 }) ≡
     (if b then record (unsized p) { site = site.Between } else record (unsized p) { depth = p.depth - 1 })

@@ -33,7 +33,7 @@ use Rattle.texts.specs.declared.limits.TheConstants.{LINE_BYTES}
 
 pub record HeaderSaid (line : List ℕ) (f : LineForm) : Type 0 where
   pub said : (number : ℕ) → said_in site.Header number line ≡ Is f
-  pub free : (o : Option Target) → begins_unbuilt o (tokens line) ≡ false
+  pub free : (t : Target) → begins_unbuilt t (tokens line) ≡ false
   pub fits : Fits line
 
 pub micro_said : (t : Target) → HeaderSaid (codes "MICRO=" ++ target_text t) (Header (header.Micro (Some t)))
@@ -55,7 +55,7 @@ token_said line h t short a b e w =
     ∙ ap tokens_say one ∙ e in
     record {
       said = λ n. ap (λ ts. unless_blank ts (said_map Header (header_of line))) one ∙ ap (said_map Header) says;
-      free = λ o. ap (begins_unbuilt o) one ∙ ap (has_unbuilt_word o) w;
+      free = λ t. ap (begins_unbuilt t) one ∙ ap (has_unbuilt_word t) w;
       fits = record { short = short; clean = clean_token line t.plain };
     }
 
@@ -85,11 +85,11 @@ baud_said n h =
 pub record PinFits (p : pin.PinLine) : Type 0 where
   pub named : is_name p.name ≡ true
   pub number : p.pin ≤ most_pin
-  pub free : has_unbuilt_word (Some Interp) (word_of p.name) ≡ false
+  pub free : has_unbuilt_word Interp (word_of p.name) ≡ false
 
 pub record PinSaid (line : List ℕ) (p : pin.PinLine) : Type 0 where
   pub said : (number : ℕ) → said_in site.Pins number line ≡ Is (Pins (pins.Pin p))
-  pub free : begins_unbuilt (Some Interp) (tokens line) ≡ false
+  pub free : begins_unbuilt Interp (tokens line) ≡ false
   pub short : length line ≤ 100
   pub clean : Fits line
 
@@ -120,7 +120,7 @@ pin_said p f =
           (name_read p.name f.named)
           ∙ ap (λ s. said_map Pins (said_map (λ p. pins.Pin (record { name = p.0; pin = p.1 })) (both (Is p.name) s)))
           (natural_read 0 most_pin p.pin (omega arith) f.number (omega (arith, f.number)));
-      free = ap (begins_unbuilt (Some Interp)) ts ∙ f.free;
+      free = ap (begins_unbuilt Interp) ts ∙ f.free;
       short = short;
       clean = record {
         short = omega (arith, short);

@@ -24,13 +24,13 @@ use Rattle.ld_line.specs.Numbers.{most_delay, most_setting}
 use Rattle.ld_line.specs.Range.{is_integer, is_read_operand, is_read_kind}
 use Rattle.ld_line.specs.Rungs.{alone}
 use Rattle.ld_line.specs.Said.{said_map, said_then}
+use Rattle.ld_line.specs.Kinds.{timer_word, counter_word, math_word, compare_word, word_for}
 use Rattle.ld_line.specs.Words.{spelling, word_of, is_ladder_word}
 use Rattle.ld_line.specs.declared.rungs.RungLine.{RungLine}
 use Rattle.ld_line.specs.declared.said.Said.TheVariants.{Bad, Is}
 use Rattle.ld_line.specs.declared.word.Word.{Word}
 use Rattle.ld_line.proofs.WordLemmas.{word_spelled, of_each_word}
 use Rattle.ld_print.specs.Words as words
-use Rattle.ld_print.specs.Words.{word_for}
 use Rattle.ld_print.proofs.TokenLemmas.{at_most, is_plain, IsToken, AllShort}
 use Rattle.ld_print.proofs.NumberLemmas.{decimal_short, natural_read, integer_read, integer_short}
 use Rattle.ld_print.proofs.OperandLemmas.{both_said, made_said, name_short, name_read, flag_short, flag_read, flags_short, operand_short, operand_read, integers_short, integers_read}
@@ -69,23 +69,23 @@ word_begins w built =
     none_is None h = refl
     none_is (Some x) h = absurd cc
 
-timer_built : (how : TimerHow) → is_ladder_word (words.timer_word how) ≡ true
+timer_built : (how : TimerHow) → is_ladder_word (timer_word how) ≡ true
 timer_built timer.Ton = refl
 timer_built timer.Tof = refl
 timer_built timer.Rto = refl
 
-counter_built : (how : CounterHow) → is_ladder_word (words.counter_word how) ≡ true
+counter_built : (how : CounterHow) → is_ladder_word (counter_word how) ≡ true
 counter_built counter.Ctu = refl
 counter_built counter.Ctd = refl
 counter_built counter.Ctc = refl
 
-math_built : (how : MathHow) → is_ladder_word (words.math_word how) ≡ true
+math_built : (how : MathHow) → is_ladder_word (math_word how) ≡ true
 math_built sum.Add = refl
 math_built sum.Sub = refl
 math_built sum.Mul = refl
 math_built sum.Div = refl
 
-compare_built : (how : CompareHow) → is_ladder_word (words.compare_word how) ≡ true
+compare_built : (how : CompareHow) → is_ladder_word (compare_word how) ≡ true
 compare_built test.Equ = refl
 compare_built test.Neq = refl
 compare_built test.Grt = refl
@@ -196,23 +196,23 @@ coil_read n mode.Negated h = made_said (λ p. kind.Coil p.0 p.1) (name_read n h)
 coil_read n mode.Set h = made_said (λ p. kind.Coil p.0 p.1) (name_read n h) refl
 coil_read n mode.Reset h = made_said (λ p. kind.Coil p.0 p.1) (name_read n h) refl
 
-timer_by_word : (how : TimerHow) (ts : List (List ℕ)) (line : List ℕ) → elements.element_of (words.timer_word how) ts line ≡ elements.timer_of how ts
+timer_by_word : (how : TimerHow) (ts : List (List ℕ)) (line : List ℕ) → elements.element_of (timer_word how) ts line ≡ elements.timer_of how ts
 timer_by_word timer.Ton ts line = refl
 timer_by_word timer.Tof ts line = refl
 timer_by_word timer.Rto ts line = refl
 
-counter_by_word : (how : CounterHow) (ts : List (List ℕ)) (line : List ℕ) → elements.element_of (words.counter_word how) ts line ≡ elements.counter_of how ts
+counter_by_word : (how : CounterHow) (ts : List (List ℕ)) (line : List ℕ) → elements.element_of (counter_word how) ts line ≡ elements.counter_of how ts
 counter_by_word counter.Ctu ts line = refl
 counter_by_word counter.Ctd ts line = refl
 counter_by_word counter.Ctc ts line = refl
 
-math_by_word : (how : MathHow) (ts : List (List ℕ)) (line : List ℕ) → elements.element_of (words.math_word how) ts line ≡ elements.math how ts
+math_by_word : (how : MathHow) (ts : List (List ℕ)) (line : List ℕ) → elements.element_of (math_word how) ts line ≡ elements.math how ts
 math_by_word sum.Add ts line = refl
 math_by_word sum.Sub ts line = refl
 math_by_word sum.Mul ts line = refl
 math_by_word sum.Div ts line = refl
 
-compare_by_word : (how : CompareHow) (ts : List (List ℕ)) (line : List ℕ) → elements.element_of (words.compare_word how) ts line ≡ elements.compare how ts
+compare_by_word : (how : CompareHow) (ts : List (List ℕ)) (line : List ℕ) → elements.element_of (compare_word how) ts line ≡ elements.compare how ts
 compare_by_word test.Equ ts line = refl
 compare_by_word test.Neq ts line = refl
 compare_by_word test.Grt ts line = refl

@@ -5,7 +5,7 @@ use Rattle.std.specs.Fmt.{decimal}
 use Rattle.std.specs.List.{list_all}
 use Rattle.std.proofs.lemmas.Bool.Decides.{nat_tests}
 use Rattle.chip_tables.specs.declared.target.Target.{Target}
-use Rattle.chip_tables.specs.declared.target.Target.TheVariants.{F628, F877, Mega16, Interp, AnsiC}
+use Rattle.chip_tables.specs.declared.target.Target.TheVariants.{Interp}
 use Rattle.ladder_tree.specs.declared.project.PinLine as pin
 use Rattle.ladder_tree.specs.declared.project.Project.{Project}
 use Rattle.ladder_tree.specs.declared.project.Rung.{Rung}
@@ -15,8 +15,6 @@ use Rattle.texts.specs.declared.limits.TheConstants.{LINE_BYTES}
 use Rattle.ld_line.specs.Header.{setting}
 use Rattle.ld_line.specs.Targets.{target_text}
 use Rattle.ld_line.specs.Tokens.{tokens}
-use Rattle.ld_line.specs.Words.{word_of, is_target_built}
-use Rattle.ld_line.specs.declared.word.Word.{Word}
 use Rattle.ld_line.specs.declared.rungs.Circuit.TheVariants as circuit
 use Rattle.ld_line.specs.declared.said.Said.TheVariants.{Is}
 use Rattle.ld_line.specs.declared.header.HeaderLine.{HeaderLine}
@@ -30,7 +28,7 @@ use Rattle.ld_text.specs.declared.place.Site.{Site}
 use Rattle.ld_text.specs.declared.place.Site.TheVariants as site
 use Rattle.ld_text.specs.Lines.{Line, lines_of}
 use Rattle.ld_text.specs.Place.{Place, said_in, behind_form, behind_all, start}
-use Rattle.ld_text.specs.Faults.{has_unbuilt_word, begins_unbuilt, names_unbuilt, is_chipless, first_fault, or_else, end_fault}
+use Rattle.ld_text.specs.Faults.{names_unbuilt, is_chipless, first_fault, or_else, end_fault}
 use Rattle.ld_text.specs.Spelling.{Chip, Cycle, Crystal, Baud, PinSection, pin_forms, spelled, spelled_project}
 use Rattle.ld_text.specs.Text.{IsReadAs, said_by}
 use Rattle.ld_print.specs.Printed as print
@@ -53,12 +51,12 @@ above x t k b = record { site = x; depth = 0; target = t; rungs = 0; elements = 
 
 -- the rungs
 
-rungs_go : (t : Target) → is_target_built t ≡ true → (gs : List Rung) (k b n : ℕ) → b ≤ 500000
+rungs_go : (t : Target) (gs : List Rung) (k b n : ℕ) → b ≤ 500000
     → AllFine (place_in site.Between (Some t) k) (map Body (spelled gs))
     → Goes (above site.Between (Some t) k b) n (map_lines (print.rungs_lines gs)) (map Body (numbered n (spelled gs)))
-rungs_go t built gs k b n few f =
+rungs_go t gs k b n few f =
     subst (λ ls. Goes (above site.Between (Some t) k b) n (map_lines ls) (map Body (numbered n (spelled gs)))) (rungs_marked gs)
-    (body_goes (spelled gs) (above site.Between (Some t) k b) 0 n t refl built (record {
+    (body_goes (spelled gs) (above site.Between (Some t) k b) 0 n t refl (record {
       indent = (refl, refl);
       depth = omega arith;
       rungs = omega arith;
@@ -77,9 +75,9 @@ program_said : (n : ℕ) → said_in site.Header n (codes "PROGRAM") ≡ Is (Hea
 unfolding setting
 program_said n = refl
 
-tail_goes : (t : Target) → is_target_built t ≡ true → (gs : List Rung) (k b n : ℕ) → b ≤ 450000
+tail_goes : (t : Target) (gs : List Rung) (k b n : ℕ) → b ≤ 450000
     → AllFine (place_in site.Between (Some t) k) (map Body (spelled gs)) → Goes (above site.Pins (Some t) k b) n (map_lines (tail_lines gs)) (tail_forms n gs)
-tail_goes t built gs k b n few f =
+tail_goes t gs k b n few f =
     goes_more (above site.Pins (Some t) k b) (above site.Header (Some t) k (b + 4)) n (codes "END") (Pins pins.End)
     (map_lines ([] ∷ codes "PROGRAM" ∷ print.rungs_lines gs)) (Header header.Program ∷ map Body (numbered (n + 1 + 1 + 1) (spelled gs)))
     (record { said = refl; short = omega arith; free = λ x. refl; built = refl; chip = refl; shallow = refl; few = refl; room = omega (arith, few) }) refl
@@ -98,44 +96,31 @@ tail_goes t built gs k b n few f =
       few = refl;
       room = omega (arith, few);
     }) refl
-    (rungs_go t built gs k (b + 4 + 1 + 8) (n + 1 + 1 + 1) (omega (arith, few)) f)))
+    (rungs_go t gs k (b + 4 + 1 + 8) (n + 1 + 1 + 1) (omega (arith, few)) f)))
 
 -- the pins
-
--- each target that is built has the words of the interpreter
-built_alike : (t : Target) → is_target_built t ≡ true → (ts : List (List ℕ)) → begins_unbuilt (Some t) ts ≡ begins_unbuilt (Some Interp) ts
-built_alike t h [] = refl
-built_alike t h (token ∷ ts) = by t h (word_of token)
-  where
-    by : (t : Target) → is_target_built t ≡ true → (o : Option Word) → has_unbuilt_word (Some t) o ≡ has_unbuilt_word (Some Interp) o
-    by t h None = refl
-    by Interp h (Some w) = refl
-    by F628 h (Some w) = absurd cc
-    by F877 h (Some w) = absurd cc
-    by Mega16 h (Some w) = absurd cc
-    by AnsiC h (Some w) = refl
 
 over : (n : ℕ) → n < PIN_LINES → nat_le PIN_LINES n ≡ false
 over n h = grind (arith, nat_tests)
 
-pins_go : (t : Target) → is_target_built t ≡ true → (gs : List Rung) (all : ℕ) → all ≤ PIN_LINES
+pins_go : (t : Target) (gs : List Rung) (all : ℕ) → all ≤ PIN_LINES
     → AllFine (place_in site.Between (Some t) all) (map Body (spelled gs)) → (ls : List pin.PinLine) (k b n : ℕ) → k + length ls ≡ all
     → b + 101 * length ls ≤ 450000 → AllPinsFit ls
     → (m : ℕ) × Goes (above site.Pins (Some t) k b) n (map_lines (print.pin_lines ls ++ tail_lines gs)) (pin_forms ls ++ tail_forms m gs)
-pins_go t built gs all few f [] k b n e room h =
+pins_go t gs all few f [] k b n e room h =
     let same : all ≡ k = omega (arith, e) in
-    (n, tail_goes t built gs k b n (omega (arith, room)) (subst (λ x. AllFine (place_in site.Between (Some t) x) (map Body (spelled gs))) same f))
-pins_go t built gs all few f (l ∷ ls) k b n e room h =
+    (n, tail_goes t gs k b n (omega (arith, room)) (subst (λ x. AllFine (place_in site.Between (Some t) x) (map Body (spelled gs))) same f))
+pins_go t gs all few f (l ∷ ls) k b n e room h =
     let s = pin_said l h.0 in
     let size : ℕ = length (print.pin_line l) in
-    let rest = pins_go t built gs all few f ls (k + 1) (b + (length (print.pin_line l) + 1)) (n + 1) (omega (arith, e)) (omega (arith, room, s.short)) h.1 in (
+    let rest = pins_go t gs all few f ls (k + 1) (b + (length (print.pin_line l) + 1)) (n + 1) (omega (arith, e)) (omega (arith, room, s.short)) h.1 in (
       rest.0,
       goes_more (above site.Pins (Some t) k b) (above site.Pins (Some t) (k + 1) (b + (length (print.pin_line l) + 1))) n (print.pin_line l)
           (Pins (pins.Pin l)) (map_lines (print.pin_lines ls ++ tail_lines gs)) (pin_forms ls ++ tail_forms rest.0 gs)
           (record {
             said = s.said n;
             short = omega (arith, s.short);
-            free = λ x. built_alike t built (tokens (print.pin_line l)) ∙ s.free;
+            free = λ x. s.free;
             built = refl;
             chip = refl;
             shallow = refl;
@@ -155,7 +140,7 @@ header_goes t b n bytes h q ls fs s built chip few e rest =
     (record {
       said = s.said n;
       short = s.fits.short;
-      free = λ x. s.free t;
+      free = λ x. s.free Interp;
       built = built;
       chip = chip;
       shallow = refl;
@@ -194,7 +179,7 @@ whole_goes p k =
     let few2 : b2 ≤ 1200 = omega (arith, few1, c.fits.short) in
     let few3 : b3 ≤ 1800 = omega (arith, few2, x.fits.short) in
     let few4 : b4 ≤ 2400 = omega (arith, few3, r.fits.short) in
-    let rest = pins_go p.target k.built p.rungs (length p.pins) k.few k.body p.pins 0 b6 8 (omega arith) (omega (arith, few4, k.few)) k.pins in
+    let rest = pins_go p.target p.rungs (length p.pins) k.few k.body p.pins 0 b6 8 (omega arith) (omega (arith, few4, k.few)) k.pins in
     let ls : List (List ℕ) = print.pin_lines p.pins ++ tail_lines p.rungs in
     let fs : List LineForm = pin_forms p.pins ++ tail_forms rest.0 p.rungs in (
       rest.0,

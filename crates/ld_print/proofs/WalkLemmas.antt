@@ -9,7 +9,6 @@ use Rattle.ladder_tree.specs.declared.fault.ProjectFault.{ProjectFault}
 use Rattle.ladder_tree.specs.declared.fault.ProjectFault.TheVariants as fault
 use Rattle.ladder_tree.specs.declared.limits.TheConstants.{RUNGS, ELEMENTS, OPENINGS, DEPTH}
 use Rattle.ld_line.specs.Tokens.{tokens}
-use Rattle.ld_line.specs.Words.{is_target_built}
 use Rattle.ld_line.specs.declared.said.Said.TheVariants.{Is}
 use Rattle.ld_line.specs.declared.rungs.Circuit.{Circuit}
 use Rattle.ld_line.specs.declared.rungs.Circuit.TheVariants as circuit
@@ -24,7 +23,7 @@ use Rattle.ld_line.specs.Rungs.{rung_tokens_say}
 use Rattle.ld_text.proofs.SaidLemmas.{AllowedAt}
 use Rattle.ld_text.specs.Place.{Place, unless_blank, inside, said_in, behind_form, behind_said, behind_all}
 use Rattle.ld_text.specs.Place as place
-use Rattle.ld_text.specs.Faults.{is_first, begins_unbuilt, names_unbuilt, is_chipless, is_too_deep, is_one_too_many, fault_of, fault_at, first_fault, or_else, row, first_row}
+use Rattle.ld_text.specs.Faults.{is_first, counting, begins_unbuilt, names_unbuilt, is_chipless, is_too_deep, is_one_too_many, fault_of, fault_at, first_fault, or_else, row, first_row}
 use Rattle.ld_text.specs.Text.{unblanked, said_by}
 use Rattle.ld_print.specs.Printed.{indented}
 use Rattle.ld_print.specs.Words.{element_words}
@@ -48,7 +47,7 @@ pub record Goes (p : Place) (n : ℕ) (ls : List Line) (fs : List LineForm) : Ty
 pub record LineGoes (p : Place) (n : ℕ) (bytes : List ℕ) (f : LineForm) : Type 0 where
   pub said : said_in p.site n bytes ≡ Is f
   pub short : length bytes ≤ LINE_BYTES
-  pub free : is_first p.site ≡ false → begins_unbuilt p.target (tokens bytes) ≡ false
+  pub free : is_first p.site ≡ false → begins_unbuilt (counting p.site p.target) (tokens bytes) ≡ false
   pub built : names_unbuilt (Is f) ≡ false
   pub chip : is_chipless p.target (Is f) ≡ false
   pub shallow : is_too_deep p (Is f) ≡ false
@@ -62,7 +61,7 @@ no_row a b c d e f g h r s t u v w x y ea eb ec ed ee ef eg eh = rw (ea, eb, ec,
 no_fault : (p : Place) (n : ℕ) (bytes : List ℕ) (f : LineForm) → LineGoes p n bytes f → fault_at p n (line_of bytes) ≡ None
 no_fault p n bytes f g =
     ap (fault_of p n bytes (length bytes + 1)) g.said
-    ∙ no_row (ltb LINE_BYTES (length bytes)) (is_first p.site && false) (not (is_first p.site) && (begins_unbuilt p.target (tokens bytes) || names_unbuilt
+    ∙ no_row (ltb LINE_BYTES (length bytes)) (is_first p.site && false) (not (is_first p.site) && (begins_unbuilt (counting p.site p.target) (tokens bytes) || names_unbuilt
     (Is f))) false (is_chipless p.target (Is f)) false (is_too_deep p (Is f)) (is_one_too_many p (Is f) || ltb FILE_BYTES (p.bytes + (length bytes + 1)))
     (fault.LineTooLong n) (fault.NotProject n) (fault.NotBuilt n) (fault.BadLine n) (fault.UnknownChip n) (fault.NumberRange n) (fault.TooDeep n)
     (fault.TooMany n)
@@ -78,8 +77,8 @@ no_fault p n bytes f g =
     no true = refl
     no false = refl
 
-    free : (b : Bool) → (b ≡ false → begins_unbuilt p.target (tokens bytes) ≡ false)
-        → (not b && (begins_unbuilt p.target (tokens bytes) || names_unbuilt (Is f))) ≡ false
+    free : (b : Bool) → (b ≡ false → begins_unbuilt (counting p.site p.target) (tokens bytes) ≡ false)
+        → (not b && (begins_unbuilt (counting p.site p.target) (tokens bytes) || names_unbuilt (Is f))) ≡ false
     free true h = refl
     free false h = ap (λ x. x || names_unbuilt (Is f)) (h refl) ∙ g.built
 
@@ -242,9 +241,9 @@ circuit_token circuit.Series = (record { some = omega arith; plain = refl }, ome
 circuit_token circuit.Parallel = (record { some = omega arith; plain = refl }, omega arith)
 
 open_says : (n : ℕ) (c : Circuit) (bytes : List ℕ) → tokens bytes ≡ circuit_word c ∷ []
-    → (said_in site.Inside n bytes ≡ Is (Body (mark.Open c))) × ((o : Option Target) → begins_unbuilt o (tokens bytes) ≡ false)
-open_says n circuit.Series bytes e = (ap (λ ts. unless_blank ts (inside n (rung_tokens_say ts bytes))) e, λ o. ap (begins_unbuilt o) e)
-open_says n circuit.Parallel bytes e = (ap (λ ts. unless_blank ts (inside n (rung_tokens_say ts bytes))) e, λ o. ap (begins_unbuilt o) e)
+    → (said_in site.Inside n bytes ≡ Is (Body (mark.Open c))) × ((t : Target) → begins_unbuilt t (tokens bytes) ≡ false)
+open_says n circuit.Series bytes e = (ap (λ ts. unless_blank ts (inside n (rung_tokens_say ts bytes))) e, λ t. ap (begins_unbuilt t) e)
+open_says n circuit.Parallel bytes e = (ap (λ ts. unless_blank ts (inside n (rung_tokens_say ts bytes))) e, λ t. ap (begins_unbuilt t) e)
 
 open_steps : (p : Place) (i n : ℕ) (t : Target) (c : Circuit) → p.target ≡ Some t → Bounds p i → Fine (unsized p) (Body (mark.Open c))
     → Steps p i n t (mark.Open c)
@@ -260,7 +259,7 @@ open_steps p i n t c g b f =
       line = record {
         said = ap (λ x. said_in x n (indented i (circuit_word c))) e ∙ says.0;
         short = omega (arith, w.short, word.1, at, deep);
-        free = λ x. says.1 p.target;
+        free = λ x. says.1 (counting p.site p.target);
         built = refl;
         chip = ap (λ o. is_chipless o (Is (Body (mark.Open c)))) g;
         shallow = f.shallow;
@@ -287,7 +286,7 @@ end_steps p i n t g b f =
             ap (λ x. said_in x n (indented (i - 4) (codes "END"))) e ∙ ap
             (λ ts. unless_blank ts (inside n (rung_tokens_say ts (indented (i - 4) (codes "END"))))) w.tokens;
         short = omega (arith, w.short, at, b.depth);
-        free = λ x. ap (begins_unbuilt p.target) w.tokens;
+        free = λ x. ap (begins_unbuilt (counting p.site p.target)) w.tokens;
         built = refl;
         chip = ap (λ o. is_chipless o (Is (Body mark.End))) g;
         shallow = refl;
@@ -339,9 +338,9 @@ end_steps p i n t g b f =
       bytes = sized;
     }
 
-element_steps : (p : Place) (i n : ℕ) (t : Target) (l : leaf.Leaf) → p.target ≡ Some t → is_target_built t ≡ true → Bounds p i
+element_steps : (p : Place) (i n : ℕ) (t : Target) (l : leaf.Leaf) → p.target ≡ Some t → Bounds p i
     → Fine (unsized p) (Body (mark.Element l)) → Steps p i n t (mark.Element l)
-element_steps p i n t l g built b f =
+element_steps p i n t l g b f =
     let e = at_element p.site l f.allowed in
     let few = below ELEMENTS p.elements f.few in
     let d = indented_is i (element_words l.kind) (element_fits l.kind f.fits).short in
@@ -351,8 +350,9 @@ element_steps p i n t l g built b f =
         said = ap (λ x. said_in x n (indented i (element_words l.kind))) e ∙ ap (said_in site.Inside n) d.is ∙ s.said n;
         short = d.short;
         free =
-            λ x. ap (begins_unbuilt p.target) (ap tokens d.is) ∙ ap (λ o. begins_unbuilt o (tokens (replicate d.count 32 ++ element_words l.kind))) g ∙ s.built
-            t built;
+            λ x. ap (begins_unbuilt (counting p.site p.target)) (ap tokens d.is)
+            ∙ ap (λ o. begins_unbuilt (counting o p.target) (tokens (replicate d.count 32 ++ element_words l.kind))) e
+            ∙ s.built (counting site.Inside p.target) f.built;
         built = refl;
         chip = ap (λ o. is_chipless o (Is (Body (mark.Element (record { line = n; kind = l.kind }))))) g;
         shallow = refl;
@@ -371,17 +371,17 @@ element_steps p i n t l g built b f =
       same = refl;
     }
 
-steps : (p : Place) (i n : ℕ) (t : Target) (m : Mark) → p.target ≡ Some t → is_target_built t ≡ true → Bounds p i → Fine (unsized p) (Body m) → Steps p i n t m
-steps p i n t mark.Rung g built b f = rung_steps p i n t g b f
-steps p i n t (mark.Open c) g built b f = open_steps p i n t c g b f
-steps p i n t mark.End g built b f = end_steps p i n t g b f
-steps p i n t (mark.Element l) g built b f = element_steps p i n t l g built b f
+steps : (p : Place) (i n : ℕ) (t : Target) (m : Mark) → p.target ≡ Some t → Bounds p i → Fine (unsized p) (Body m) → Steps p i n t m
+steps p i n t mark.Rung g b f = rung_steps p i n t g b f
+steps p i n t (mark.Open c) g b f = open_steps p i n t c g b f
+steps p i n t mark.End g b f = end_steps p i n t g b f
+steps p i n t (mark.Element l) g b f = element_steps p i n t l g b f
 
-pub body_goes : (ms : List Mark) (p : Place) (i n : ℕ) (t : Target) → p.target ≡ Some t → is_target_built t ≡ true → Bounds p i
+pub body_goes : (ms : List Mark) (p : Place) (i n : ℕ) (t : Target) → p.target ≡ Some t → Bounds p i
     → AllFine (unsized p) (map Body ms) → Goes p n (map_lines (mark_lines i ms)) (map Body (numbered n ms))
-body_goes [] p i n t g built b f = record { faultless = refl; said = refl; closed = f }
-body_goes (m ∷ ms) p i n t g built b f =
-    let s = steps p i n t m g built b f.0 in
+body_goes [] p i n t g b f = record { faultless = refl; said = refl; closed = f }
+body_goes (m ∷ ms) p i n t g b f =
+    let s = steps p i n t m g b f.0 in
     goes_more p (next p i n m) n (mark_line i m) (Body (with_line n m)) (map_lines (mark_lines (indent_behind i m) ms)) (map Body (numbered (n + 1) ms)) s.line
     refl
-    (body_goes ms (next p i n m) (indent_behind i m) (n + 1) t s.target built s.bounds (subst (λ x. AllFine x (map Body ms)) s.same f.1))
+    (body_goes ms (next p i n m) (indent_behind i m) (n + 1) t s.target s.bounds (subst (λ x. AllFine x (map Body ms)) s.same f.1))

@@ -2,7 +2,8 @@
 
 ghost use Rattle.std.specs.Prelude.{◌≡◌, ◌/◌, [], ◌∷◌, ◌++◌, OnOk, map, length};
 ghost use Rattle.std.specs.Fmt.{decimal, signed_decimal};
-ghost use Rattle.ld_print.specs.Words.{timer_word, counter_word, math_word, compare_word, word_for, flag, mode_flags, operand_text, comment_tokens, integers, tokens_behind, behind_spaces, element_words};
+ghost use Rattle.ld_line.specs.Kinds.{timer_word, counter_word, math_word, compare_word, word_for};
+ghost use Rattle.ld_print.specs.Words.{flag, mode_flags, operand_text, comment_tokens, integers, tokens_behind, behind_spaces, element_words};
 
 use ladder_tree::element::{
     CoilMode, CompareHow, CounterHow, LeafKind, MathHow, Name, Operand, TimerHow,

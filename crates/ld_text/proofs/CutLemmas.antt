@@ -11,7 +11,7 @@ use Rattle.ld_line.specs.declared.said.Said.{Said}
 use Rattle.ld_text.specs.declared.heard.LineForm.{LineForm}
 use Rattle.ld_text.specs.Lines.{Line, open_line, ended_lines, behind_feeds, lines_of, size_of}
 use Rattle.ld_text.specs.Place.{Place, start, said_in, behind}
-use Rattle.ld_text.specs.Faults.{line_of, fault_of, fault_at, first_fault, or_else, is_first, is_bad, is_out_of_range, begins_unbuilt, names_unbuilt, is_chipless, is_too_deep, is_one_too_many}
+use Rattle.ld_text.specs.Faults.{line_of, fault_of, fault_at, first_fault, or_else, is_first, is_bad, is_out_of_range, counting, begins_unbuilt, names_unbuilt, is_chipless, is_too_deep, is_one_too_many}
 use Rattle.ld_text.specs.Text.{IsRefusedAlike, text_fault, early_fault, early_length, judged}
 use Rattle.ld_text.specs.Reading.{Standing, first, Taken, Goes, Stops, taken, taken_as, Mind, Reads, Refuses, line_done, fed, fed_byte, fresh, Verdict, Accepts, Rejects, at_end, finished, next}
 use Rattle.ld_text.proofs.FedLemmas.{fed_refused, fed_append}
@@ -42,7 +42,7 @@ rows_at n false false false false false false false false = tt
 fault_of-at : (p : Place) (n : ℕ) (bytes : List ℕ) (size : ℕ) (said : Said LineForm) → IsAt n (fault_of p n bytes size said)
 fault_of-at p n bytes size said =
     rows_at n (ltb LINE_BYTES (length bytes)) (is_first p.site && is_bad said)
-    (not (is_first p.site) && (begins_unbuilt p.target (tokens bytes) || names_unbuilt said)) (is_bad said)
+    (not (is_first p.site) && (begins_unbuilt (counting p.site p.target) (tokens bytes) || names_unbuilt said)) (is_bad said)
     (is_chipless p.target said) (is_out_of_range said) (is_too_deep p said)
     (is_one_too_many p said || ltb FILE_BYTES (p.bytes + size))
 

@@ -11,14 +11,17 @@ use Rattle.ladder_tree.specs.declared.limits.TheConstants.{RUNGS, ELEMENTS, OPEN
 use Rattle.ladder_tree.specs.declared.project.Node.{Node}
 use Rattle.ladder_tree.specs.declared.project.PinLine as pin
 use Rattle.ladder_tree.specs.declared.project.Rung.{Rung}
+use Rattle.ld_line.specs.Kinds.{word_for, is_kind_built}
 use Rattle.ld_line.specs.Numbers.{most_setting}
 use Rattle.ld_line.specs.Range.{is_read_kind, is_read_pin}
 use Rattle.ld_line.specs.Tokens.{tokens}
-use Rattle.ld_line.specs.Words.{is_target_built}
+use Rattle.ld_line.specs.Words.{word_of, is_built, is_target_built}
+use Rattle.ld_line.specs.declared.word.Word.{Word}
 use Rattle.ld_line.specs.declared.header.HeaderLine.{HeaderLine}
 use Rattle.ld_line.specs.declared.header.HeaderLine.TheVariants as header
 use Rattle.ld_line.specs.declared.pins.PinsLine.TheVariants as pins
 use Rattle.ld_line.specs.declared.said.Said.TheVariants.{Is}
+use Rattle.ld_line.proofs.KindLemmas.{begins_with}
 use Rattle.ld_line.proofs.RangeLemmas.{in_their_ranges, pins_in_range, settings_in_range}
 use Rattle.ld_text.specs.declared.heard.Mark.{Mark}
 use Rattle.ld_text.specs.declared.heard.Mark.TheVariants as mark
@@ -28,7 +31,7 @@ use Rattle.ld_text.specs.declared.place.Site.{Site}
 use Rattle.ld_text.specs.declared.place.Site.TheVariants as site
 use Rattle.ld_text.specs.Lines.{Line, size_of}
 use Rattle.ld_text.specs.Place.{Place, said_in, behind, behind_said, behind_header, behind_mark}
-use Rattle.ld_text.specs.Faults.{begins_unbuilt, is_chipless, is_first, fault_of}
+use Rattle.ld_text.specs.Faults.{counting, has_unbuilt_word, begins_unbuilt, is_chipless, is_first, fault_of}
 use Rattle.ld_text.specs.Spelling.{Settings, Item, Chip, Cycle, Crystal, Baud, Compiled, PinSection, joined, pin_forms, spelled_item, spelled_items, defaults, with_item, with_items}
 use Rattle.ld_text.specs.Text.{unblanked, said_by}
 use Rattle.ld_text.specs.Tree.{Frame, Tree, Closed, Building, ended, grown, with_form}
@@ -247,6 +250,10 @@ pub record CountsPins (p : Place) (s : Settings) : Type 0 where
   pub pins : length s.pins ≡ p.pins
   pub few_pins : p.pins ≤ PIN_LINES
 
+-- the leaves are built for the target whose words count in a rung
+abbrev pub AreBuilt : Option Target → Tree → Type 0
+AreBuilt target t = list_all (λ l. is_kind_built (counting site.Inside target) l.kind) (leaves_of (so_far t)) ≡ true
+
 pub record Knows (fs : List LineForm) (s : Standing) : Type 0 where
   pub spelled : KnowsAt s.place.site fs s
   pub counts : Counts s.place s.tree
@@ -254,6 +261,7 @@ pub record Knows (fs : List LineForm) (s : Standing) : Type 0 where
   pub built : IsBuilt s.place.target
   pub read : AreRead s.settings
   pub pins : CountsPins s.place s.settings
+  pub words : AreBuilt s.place.target s.tree
 
 pub at_first : Knows [] first
 at_first = record {
@@ -274,6 +282,7 @@ at_first = record {
   built = tt;
   read = record { cycle = lit≤ tt; crystal = lit≤ tt; baud = lit≤ tt; assigned = refl };
   pins = record { pins = refl; few_pins = lit≤ tt };
+  words = refl;
 }
 
 -- a blank line adds nothing
@@ -354,8 +363,8 @@ built_if false h = absurd cc
 chip_built : (s : Standing) (bytes : List ℕ) (size : ℕ) (t : Target) → s.place.site ≡ site.Header
     → Passes s.place bytes size (Is (Header (header.Micro (Some t)))) → is_target_built t ≡ true
 chip_built s bytes size t e p =
-    let rows = ap (λ x. not (is_first x) && (begins_unbuilt s.place.target (tokens bytes) || not (is_target_built t))) (sym e) ∙ p.built in
-    built_if (is_target_built t) (or_parts (begins_unbuilt s.place.target (tokens bytes)) (not (is_target_built t)) rows).1
+    let rows = ap (λ x. not (is_first x) && (begins_unbuilt (counting s.place.site s.place.target) (tokens bytes) || not (is_target_built t))) (sym e) ∙ p.built in
+    built_if (is_target_built t) (or_parts (begins_unbuilt (counting s.place.site s.place.target) (tokens bytes)) (not (is_target_built t)) rows).1
 
 no_chip : (o : Option Target) → is_chipless o (Is (Header (header.Micro None))) ≡ false → ⊥
 no_chip None h = absurd cc
@@ -527,6 +536,13 @@ same_place s size form k a b c d t g h = record {
   built = subst IsBuilt (sym h) k.built;
 }
 
+element_site : (x : Site) (l : leaf.Leaf) → AllowedAt x (Body (mark.Element l)) → x ≡ site.Inside
+element_site site.First l a = absurd a
+element_site site.Header l a = absurd a
+element_site site.Pins l a = absurd a
+element_site site.Between l a = absurd a
+element_site site.Inside l a = refl
+
 header_site : (x : Site) (h : HeaderLine) → AllowedAt x (Header h) → x ≡ site.Header
 header_site site.Header h a = refl
 header_site site.First h a = absurd a
@@ -656,6 +672,65 @@ pins_behind s size (Pins (pins.Pin l)) k r = record { pins = omega (arith, lengt
 pins_behind s size (Pins pins.End) k r = same_pins s.place (standing_behind size s (Pins pins.End)).place s.settings s.settings refl refl k
 pins_behind s size (Body m) k r = same_pins s.place (standing_behind size s (Body m)).place s.settings s.settings (mark_pins s.place m) refl k
 
+-- an element that has no fault is built for the target
+pub element_built : (p : Place) (number : ℕ) (bytes : List ℕ) (size : ℕ) (l : leaf.Leaf) → p.site ≡ site.Inside
+    → said_in site.Inside number bytes ≡ Is (Body (mark.Element l)) → Passes p bytes size (Is (Body (mark.Element l)))
+    → is_kind_built (counting site.Inside p.target) l.kind ≡ true
+element_built p number bytes size l e h pass =
+    let w = element_worded number bytes l h in
+    let rows = ap (λ x. not (is_first x) && (begins_unbuilt (counting x p.target) (tokens bytes) || false)) (sym e) ∙ pass.built in
+    let none = (or_parts (begins_unbuilt (counting site.Inside p.target) (tokens bytes)) false rows).0 in
+    let free : not (is_built (counting site.Inside p.target) w.word) ≡ false =
+    ap (has_unbuilt_word (counting site.Inside p.target)) (sym w.known) ∙ ap (begins_unbuilt (counting site.Inside p.target)) (sym w.tokens) ∙ none in
+    ap (is_built (counting site.Inside p.target)) (begins_with w.word w.rest bytes l.kind w.said)
+    ∙ built_if (is_built (counting site.Inside p.target) w.word) free
+
+-- the leaves behind a line of a rung that has none
+same_leaves : (target : Option Target) (t u : Tree) → leaves_of (so_far u) ≡ leaves_of (so_far t) → AreBuilt target t → AreBuilt target u
+same_leaves target t u e k = ap (list_all (λ l. is_kind_built (counting site.Inside target) l.kind)) e ∙ k
+
+mark_leaves : (t : Tree) (m : Mark) → Suits t m → leaves_of (m ∷ []) ≡ [] → leaves_of (so_far (grown t m)) ≡ leaves_of (so_far t)
+mark_leaves t m s e =
+    ap leaves_of (so_far-grown t m s) ∙ leaves_of-append (so_far t) (m ∷ []) ∙ ap (λ x. leaves_of (so_far t) ++ x) e ∙ append-nil (leaves_of (so_far t))
+
+mark_words : (p : Place) (number : ℕ) (bytes : List ℕ) (size : ℕ) (t : Tree) (m : Mark) → Suits t m → said_in p.site number bytes ≡ Is (Body m)
+    → AllowedAt p.site (Body m) → Passes p bytes size (Is (Body m)) → AreBuilt p.target t → AreBuilt p.target (grown t m)
+mark_words p number bytes size t mark.Rung s h a pass k = same_leaves p.target t (grown t mark.Rung) (mark_leaves t mark.Rung s refl) k
+mark_words p number bytes size t (mark.Open c) s h a pass k = same_leaves p.target t (grown t (mark.Open c)) (mark_leaves t (mark.Open c) s refl) k
+mark_words p number bytes size t mark.End s h a pass k = same_leaves p.target t (grown t mark.End) (mark_leaves t mark.End s refl) k
+mark_words p number bytes size t (mark.Element l) s h a pass k =
+    let e = element_site p.site l a in
+    let built = element_built p number bytes size l e (ap (λ x. said_in x number bytes) (sym e) ∙ h) pass in
+    let test : leaf.Leaf → Bool = λ l. is_kind_built (counting site.Inside p.target) l.kind in
+    ap (λ ms. list_all test (leaves_of ms)) (so_far-grown t (mark.Element l) s)
+    ∙ ap (list_all test) (leaves_of-append (so_far t) (mark.Element l ∷ []))
+    ∙ list_all-append test (leaves_of (so_far t)) (l ∷ [])
+    ∙ both_true (list_all test (leaves_of (so_far t))) (test l) k built
+
+-- a chip is named above the rungs alone
+no_leaves : (target : Option Target) (t : Tree) → t ≡ Closed [] → AreBuilt target t
+no_leaves target t e = subst (AreBuilt target) (sym e) refl
+
+header_tree : (x : Site) (fs : List LineForm) (s : Standing) (h : HeaderLine) → AllowedAt x (Header h) → KnowsAt x fs s → s.tree ≡ Closed []
+header_tree site.Header fs s h a k = k.tree
+header_tree site.First fs s h a k = absurd a
+header_tree site.Pins fs s h a k = absurd a
+header_tree site.Between fs s h a k = absurd a
+header_tree site.Inside fs s h a k = absurd a
+
+words_behind : (s : Standing) (number : ℕ) (bytes : List ℕ) (size : ℕ) (fs : List LineForm) (form : LineForm) → Knows fs s
+    → said_in s.place.site number bytes ≡ Is form → AllowedAt s.place.site form → Passes s.place bytes size (Is form)
+    → AreBuilt (standing_behind size s form).place.target (standing_behind size s form).tree
+words_behind s number bytes size fs Blank k h a p = k.words
+words_behind s number bytes size fs Magic k h a p = k.words
+words_behind s number bytes size fs (Header x) k h a p =
+    no_leaves (behind_header s.place x).target s.tree (header_tree s.place.site fs s x a k.spelled)
+words_behind s number bytes size fs (Pins (pins.Pin l)) k h a p = k.words
+words_behind s number bytes size fs (Pins pins.End) k h a p = k.words
+words_behind s number bytes size fs (Body m) k h a p =
+    subst (λ o. AreBuilt o (grown s.tree m)) (sym (mark_target s.place m))
+    (mark_words s.place number bytes size s.tree m (suits_at s.place.site fs s m k.spelled a) h a p k.words)
+
 pub knows_more : (number : ℕ) (bytes : List ℕ) (size : ℕ) (s t : Standing) (fs : List LineForm) → Knows fs s → (w : Went number bytes size s t)
     → Knows (fs ++ one w.form) t
 knows_more number bytes size s t fs k w =
@@ -671,6 +746,7 @@ knows_more number bytes size s t fs k w =
       built = kept.built;
       read = read_behind s.place.site s.settings number bytes w.form k.read w.said;
       pins = pins_behind s size w.form k.pins r.1;
+      words = words_behind s number bytes size fs w.form k w.said a p;
     })
 
 unblank : (form : LineForm) (more : List LineForm) → unblanked (Is form) (map Is more) ≡ map Is (one form ++ more)

@@ -18,7 +18,7 @@ use Rattle.ld_text.specs.declared.place.Place.TheVariants as part
 use Rattle.ld_text.specs.declared.place.Site.{Site}
 use Rattle.ld_text.specs.declared.place.Site.TheVariants as site
 use Rattle.ld_text.specs.declared.reader.Reader.{Reader}
-use Rattle.ld_text.specs.Faults.{is_first, is_bad, begins_unbuilt, names_unbuilt, fault_of, or_else}
+use Rattle.ld_text.specs.Faults.{is_first, is_bad, counting, begins_unbuilt, names_unbuilt, fault_of, or_else}
 use Rattle.ld_text.specs.Place.{Place, unless_blank, between, said_in}
 use Rattle.ld_text.specs.Tree.{is_open}
 use Rattle.ld_text.specs.Reading.{word_fault, said_fault, form_fault, Fits, HasRoom, Standing, Taken, Goes, Stops, Reads, next, line_done, taken, taken_as, at_end, finished, went, site_at, place_of, IsStopped, IsRefused, IsRejected}
@@ -81,15 +81,15 @@ pub fault_parts : (p : Place) (n : ℕ) (bytes : List ℕ) (size : ℕ) (said : 
     → fault_of p n bytes size said ≡ or_else (word_fault p n bytes said) (said_fault p n size said)
 fault_parts p n bytes size Bad h =
     rw h
-    (or_cond (is_first p.site && is_bad Bad) (not (is_first p.site) && (begins_unbuilt p.target (tokens bytes) || names_unbuilt Bad)) (NotProject n)
+    (or_cond (is_first p.site && is_bad Bad) (not (is_first p.site) && (begins_unbuilt (counting p.site p.target) (tokens bytes) || names_unbuilt Bad)) (NotProject n)
     (NotBuilt n) (Some (BadLine n)))
 fault_parts p n bytes size Range h =
     rw h
-    (or_cond (is_first p.site && is_bad Range) (not (is_first p.site) && (begins_unbuilt p.target (tokens bytes) || names_unbuilt Range)) (NotProject n)
+    (or_cond (is_first p.site && is_bad Range) (not (is_first p.site) && (begins_unbuilt (counting p.site p.target) (tokens bytes) || names_unbuilt Range)) (NotProject n)
     (NotBuilt n) (Some (NumberRange n)))
 fault_parts p n bytes size (Is form) h =
     rw h
-    (or_cond (is_first p.site && is_bad (Is form)) (not (is_first p.site) && (begins_unbuilt p.target (tokens bytes) || names_unbuilt (Is form)))
+    (or_cond (is_first p.site && is_bad (Is form)) (not (is_first p.site) && (begins_unbuilt (counting p.site p.target) (tokens bytes) || names_unbuilt (Is form)))
     (NotProject n) (NotBuilt n) (form_fault p n size form))
 
 pub only_said : (p : Place) (n : ℕ) (bytes : List ℕ) (size : ℕ) (said : Said LineForm) → ltb LINE_BYTES (length bytes) ≡ false →

@@ -13,7 +13,7 @@ use Rattle.ld_text.specs.declared.heard.Mark.TheVariants as mark
 use Rattle.ld_text.specs.declared.heard.LineForm.{LineForm}
 use Rattle.ld_text.specs.declared.heard.LineForm.TheVariants.{Blank, Magic, Header, Pins, Body}
 use Rattle.ld_text.specs.Place.{Place, said_in}
-use Rattle.ld_text.specs.Faults.{fault_of, is_first, is_bad, is_out_of_range, begins_unbuilt, names_unbuilt, is_chipless, is_too_deep, is_one_too_many}
+use Rattle.ld_text.specs.Faults.{fault_of, is_first, is_bad, is_out_of_range, counting, begins_unbuilt, names_unbuilt, is_chipless, is_too_deep, is_one_too_many}
 use Rattle.ld_text.specs.Reading.{Standing, Goes, Stops, RoomFor, HasRoom, taken, taken_as, standing_behind}
 
 none_of : (b : Bool) (f : ProjectFault) (rest : Option ProjectFault) → cond b (Some f) rest ≡ None → (b ≡ false) × (rest ≡ None)
@@ -24,7 +24,7 @@ none_of false f rest h = (refl, h)
 pub record Passes (p : Place) (bytes : List ℕ) (size : ℕ) (said : Said LineForm) : Type 0 where
   pub short : ltb LINE_BYTES (length bytes) ≡ false
   pub known : (is_first p.site && is_bad said) ≡ false
-  pub built : (not (is_first p.site) && (begins_unbuilt p.target (tokens bytes) || names_unbuilt said)) ≡ false
+  pub built : (not (is_first p.site) && (begins_unbuilt (counting p.site p.target) (tokens bytes) || names_unbuilt said)) ≡ false
   pub good : is_bad said ≡ false
   pub chip : is_chipless p.target said ≡ false
   pub range : is_out_of_range said ≡ false

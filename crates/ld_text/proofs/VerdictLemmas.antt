@@ -20,6 +20,7 @@ use Rattle.ld_text.specs.Faults.{first_fault, or_else, end_fault}
 use Rattle.ld_text.specs.Spelling.{spelled_items}
 use Rattle.ld_line.specs.declared.header.HeaderLine.TheVariants as header
 use Rattle.ld_text.specs.Text.{IsReadAs, text_fault, early_fault, early_length, project_of, judged}
+use Rattle.ld_line.specs.Kinds.{is_kind_built}
 use Rattle.ld_text.specs.Within.{IsWithin}
 use Rattle.ld_text.specs.Tree.{Tree, Closed, Building}
 use Rattle.ld_text.specs.Reading.{Standing, first, Taken, Goes, Stops, taken, Mind, Reads, Refuses, next, fed, fresh, Verdict, Accepts, Rejects, project_at, ended_as, at_end, finished}
@@ -27,7 +28,7 @@ use Rattle.ld_text.proofs.FedLemmas.{fed_refused, fed_append}
 use Rattle.ld_text.proofs.TreeGrowth.{rungs_counted, so_far}
 use Rattle.ld_text.proofs.RunLemmas.{then, run, early_run, FedTo, fed_to, run_goes, run_stops}
 use Rattle.ld_text.proofs.SaidLemmas.{IsBuilt}
-use Rattle.ld_text.proofs.KnowsLemmas.{Counts, KnowsAt, InBody, IsClosed, at_first, told, is_read}
+use Rattle.ld_text.proofs.KnowsLemmas.{Counts, KnowsAt, InBody, IsClosed, at_first, told, is_read, AreBuilt}
 
 run-append : (n : ℕ) (xs ys : List Line) (s : Standing) → run n (xs ++ ys) s ≡ then (run (n + length xs) ys) (run n xs s)
 run-append n [] ys s = let k : n ≡ n + 0 = omega arith in ap (λ k. run k ys s) k
@@ -118,6 +119,8 @@ accepted text t gs chip h e f g =
     let k = told 1 (lines_of text) first t [] at_first h in
     let body : InBody k.more t × IsClosed t.tree = subst (λ x. KnowsAt x k.more t) e k.knows.spelled in
     let counts : Counts t.place (Closed gs) = subst (Counts t.place) f k.knows.counts in
+    let words : AreBuilt (Some chip) (Closed gs) =
+    subst (λ o. AreBuilt o (Closed gs)) (sym k.knows.target ∙ g) (subst (AreBuilt t.place.target) f k.knows.words) in
     let counted = rungs_counted gs in (
       record {
         faultless =
@@ -143,6 +146,7 @@ accepted text t gs chip h e f g =
         forms = omega (arith, counted.opens, counts.openings, counts.few_openings);
         depth = counts.shallow;
         read = ap (list_all is_read) (sym counted.elements) ∙ counts.read;
+        built = ap (list_all (λ l. is_kind_built chip l.kind)) (sym counted.elements) ∙ words;
       },
     )
 

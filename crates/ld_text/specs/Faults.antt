@@ -51,17 +51,22 @@ is_out_of_range Bad = false
 is_out_of_range Range = true
 is_out_of_range (Is form) = false
 
--- While no chip is named the words of interpretable texts count.
-abbrev pub is_word_built : Option Target → Word → Bool
-is_word_built None word = is_built Interp word
-is_word_built (Some target) word = is_built target word
+-- The target whose words count: in a rung that of the project. Elsewhere, where a name may be such a word, and while no chip is named, the words of
+-- interpretable texts count.
+abbrev pub counting : Site → Option Target → Target
+counting site.Inside (Some target) = target
+counting site.Inside None = Interp
+counting site.First target = Interp
+counting site.Header target = Interp
+counting site.Pins target = Interp
+counting site.Between target = Interp
 
-abbrev pub has_unbuilt_word : Option Target → Option Word → Bool
+abbrev pub has_unbuilt_word : Target → Option Word → Bool
 has_unbuilt_word target None = false
-has_unbuilt_word target (Some word) = not (is_word_built target word)
+has_unbuilt_word target (Some word) = not (is_built target word)
 
 -- the line begins with a word of an element that is not built for the target
-abbrev pub begins_unbuilt : Option Target → List (List ℕ) → Bool
+abbrev pub begins_unbuilt : Target → List (List ℕ) → Bool
 begins_unbuilt target [] = false
 begins_unbuilt target (token ∷ ts) = has_unbuilt_word target (word_of token)
 
@@ -107,7 +112,7 @@ abbrev pub fault_of : Place → ℕ → List ℕ → ℕ → Said LineForm → O
 fault_of p number bytes size said = first_row (
     row (nat_lt LINE_BYTES (length bytes)) (fault.LineTooLong number)
     ∷ row (is_first p.site && is_bad said) (fault.NotProject number)
-    ∷ row (not (is_first p.site) && (begins_unbuilt p.target (tokens bytes) || names_unbuilt said)) (fault.NotBuilt number)
+    ∷ row (not (is_first p.site) && (begins_unbuilt (counting p.site p.target) (tokens bytes) || names_unbuilt said)) (fault.NotBuilt number)
     ∷ row (is_bad said) (fault.BadLine number)
     ∷ row (is_chipless p.target said) (fault.UnknownChip number)
     ∷ row (is_out_of_range said) (fault.NumberRange number)

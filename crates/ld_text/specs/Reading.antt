@@ -22,7 +22,7 @@ use Rattle.ld_text.specs.declared.place.Site.{Site}
 use Rattle.ld_text.specs.declared.place.Site.TheVariants as site
 use Rattle.ld_text.specs.declared.reader.Reader.{Reader}
 use Rattle.ld_text.specs.Place.{Place, start, said_in, behind_form, behind_said}
-use Rattle.ld_text.specs.Faults.{is_first, is_bad, begins_unbuilt, names_unbuilt, is_chipless, is_too_deep, is_one_too_many, row, first_row, fault_of, end_fault}
+use Rattle.ld_text.specs.Faults.{is_first, is_bad, counting, begins_unbuilt, names_unbuilt, is_chipless, is_too_deep, is_one_too_many, row, first_row, fault_of, end_fault}
 use Rattle.ld_text.specs.Spelling.{Settings, defaults}
 use Rattle.ld_text.specs.Text.{project_of}
 use Rattle.ld_text.specs.Tree.{Tree, Closed, Building, with_form, is_open, depth_of, tree_at}
@@ -45,7 +45,7 @@ settings_behind s (Body m) = s
 abbrev pub word_fault : Place → ℕ → List ℕ → Said LineForm → Option ProjectFault
 word_fault p number bytes said = first_row (
     row (is_first p.site && is_bad said) (NotProject number)
-    ∷ row (not (is_first p.site) && (begins_unbuilt p.target (tokens bytes) || names_unbuilt said)) (NotBuilt number)
+    ∷ row (not (is_first p.site) && (begins_unbuilt (counting p.site p.target) (tokens bytes) || names_unbuilt said)) (NotBuilt number)
     ∷ [])
 
 -- those of a line that says something

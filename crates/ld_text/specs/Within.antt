@@ -5,6 +5,7 @@ use Rattle.ladder_tree.specs.declared.project.Project.{Project}
 use Rattle.ladder_tree.specs.Forms.{forms_of_all}
 use Rattle.ladder_tree.specs.Leaves.{all_leaves, depth_of_all}
 use Rattle.ladder_tree.specs.declared.limits.TheConstants.{DEPTH, RUNGS, ELEMENTS, OPENINGS, PIN_LINES}
+use Rattle.ld_line.specs.Kinds.{is_kind_built}
 use Rattle.ld_line.specs.Numbers.{most_setting}
 use Rattle.ld_line.specs.Range.{is_read_kind, is_read_pin}
 use Rattle.ld_line.specs.Words.{is_target_built}
@@ -23,3 +24,4 @@ pub record IsWithin (p : Project) : Type 0 where
   pub forms : forms_of_all p.rungs ≤ OPENINGS
   pub depth : depth_of_all p.rungs ≤ DEPTH
   pub read : list_all (λ l. is_read_kind l.kind) (all_leaves p.rungs) ≡ true
+  pub built : list_all (λ l. is_kind_built p.target l.kind) (all_leaves p.rungs) ≡ true

@@ -6,7 +6,7 @@ ghost use Rattle.ld_line.specs.Said.{said_map};
 ghost use Rattle.ld_line.specs.Tokens.{tokens};
 ghost use Rattle.ld_text.specs.declared.heard.LineForm.TheVariants as form;
 ghost use Rattle.ld_text.specs.declared.place.Site.TheVariants as site;
-ghost use Rattle.ld_text.specs.Faults.{begins_unbuilt};
+ghost use Rattle.ld_text.specs.Faults.{counting, begins_unbuilt};
 ghost use Rattle.ld_text.specs.Place.{between, inside, said_in};
 
 use crate::place::Site;
@@ -123,14 +123,20 @@ fn pins_form(said: Said<PinsLine>) -> Said<LineForm>
     }
 }
 
+/// The target whose words count at a part of the text, below the MICRO line of the target.
+fn counting(site: Site, target: Option<Target>) -> Target
+    ensures { result ≡ counting site target }
+{
+    match (site, target) {
+        (Site::Inside, Some(target)) => target,
+        _ => Target::Interp,
+    }
+}
+
 /// Whether the line that begins with the token begins with a word that is not built for the target.
-fn is_unbuilt(target: Option<Target>, token: &[u8]) -> bool
+fn is_unbuilt(target: Target, token: &[u8]) -> bool
     ensures { result ≡ begins_unbuilt target (token.now ∷ []) }
 {
-    let target = match target {
-        Some(target) => target,
-        None => Target::Interp,
-    };
     match word_of(token) {
         Some(word) => !is_built(target, word),
         None => false,
@@ -172,12 +178,12 @@ pub fn hear(
     line: &[u8],
 ) -> Result<Heard, AllocError>
     ensures said { IfOk result (λ heard. heard.said ≡ said_in site number line.now) }
-    ensures unbuilt { IfOk result (λ heard. heard.is_unbuilt ≡ begins_unbuilt target (tokens line.now)) }
+    ensures unbuilt { IfOk result (λ heard. heard.is_unbuilt ≡ begins_unbuilt (counting site target) (tokens line.now)) }
 {
     let words = tokens(alloc, line)?;
     let is_unbuilt = match words.as_slice() {
         [] => false,
-        [token, ..] => is_unbuilt(target, token),
+        [token, ..] => is_unbuilt(counting(site, target), token),
     };
     let said = said_by_tokens(alloc, site, number, line, words.as_slice())?;
     Ok(Heard { said, is_unbuilt })

@@ -5,7 +5,7 @@ ghost use Rattle.ld_line.specs.Tokens.{tokens};
 ghost use Rattle.ld_line.specs.declared.said.Said.TheVariants.{Is};
 ghost use Rattle.ld_text.specs.declared.fault.TextError.TheVariants as error;
 ghost use Rattle.ld_text.specs.declared.heard.LineForm.TheVariants as form;
-ghost use Rattle.ld_text.specs.Faults.{is_bad, begins_unbuilt, names_unbuilt, is_chipless, is_too_deep, is_one_too_many, fault_of, end_fault};
+ghost use Rattle.ld_text.specs.Faults.{is_bad, counting, begins_unbuilt, names_unbuilt, is_chipless, is_too_deep, is_one_too_many, fault_of, end_fault};
 ghost use Rattle.ld_text.specs.declared.heard.Mark.TheVariants as mark;
 ghost use Rattle.ld_text.specs.Reading.{Reads, Goes, Accepts, at_end, word_fault, form_fault, said_fault, RoomFor, Fits, fed, fed_byte, finished, line_done, next, place_of, settings_of, standing_of, mind_of, taken, went, IsStopped, IsRefused, IsRejected, Stands, StandsRefused};
 ghost use Rattle.ld_text.specs.Place.{said_in};
@@ -361,7 +361,7 @@ impl Reader {
 
     /// The fault of the line that came, of which so much is heard, among those that stand in front of what it says. It has the number.
     fn word_fault(&self, number: u32, heard: &Heard) -> Option<ProjectFault>
-        requires { heard.now.is_unbuilt ≡ begins_unbuilt self.now.target (tokens self.now.line.items) }
+        requires { heard.now.is_unbuilt ≡ begins_unbuilt (counting (place_of self.now).site self.now.target) (tokens self.now.line.items) }
         ensures { result ≡ word_fault (place_of self.now) number self.now.line.items heard.now.said }
     {
         let is_first = matches!(self.site(), Site::First);

@@ -1,5 +1,5 @@
 -- What was read of a file, which may be cut behind its limit, answers for the whole file.
-use Rattle.std.proofs.Common.{◌≡◌, ℕ, ◌+◌, ◌≤◌, Bool, List, length, take, nat_lt, Some, ap, ◌∙◌, subst, arith, le_refl}
+use Rattle.std.proofs.Common.{◌≡◌, ℕ, ◌+◌, ◌≤◌, Bool, List, [], length, take, nat_lt, Some, ap, ◌∙◌, subst, arith, le_refl}
 use Rattle.std.proofs.lemmas.Bool.Decides.{nat_tests}
 use Rattle.std.proofs.lemmas.List.{take_all, take-take, length-take}
 use Rattle.ld_base.specs.Bytes.{Held}
@@ -8,6 +8,9 @@ use Rattle.texts.specs.Limits as limits
 use Rattle.texts.specs.declared.limits.TheConstants.{FILE_BYTES, CODE_BYTES}
 use Rattle.ladder_tree.specs.declared.names.Names.{Names}
 use Rattle.ladder_trace.specs.Trace as trace
+use Rattle.chip_tables.specs.declared.target.Target.{Target}
+use Rattle.intel_hex.specs.Verdict as hex
+use Rattle.intel_hex.specs.Verdict.{sayings, hex_verdict}
 use Rattle.interp_code.specs.Refused as interp
 use Rattle.interp_code.specs.declared.program.InterpProgram.{InterpProgram}
 use Rattle.ldmicro_top.specs.Code.{IsCode, IsCodeRefusedAt}
@@ -33,6 +36,11 @@ verdict_whole n text =
     (cut_again (FILE_BYTES + 1) text)
     ∙ ap (λ (over : Bool). trace.verdict_by over (length (lines (limits.judged FILE_BYTES text))) (trace.read n (lines (limits.judged FILE_BYTES text))))
     (over_still FILE_BYTES text)
+
+pub hex_whole : (t : Target) (text : List ℕ) → hex_verdict t (limits.judged FILE_BYTES text) ≡ hex_verdict t text
+hex_whole t text =
+    ap (λ (x : List ℕ). hex.verdict t [] (sayings (nat_lt FILE_BYTES (length (limits.judged FILE_BYTES text))) (lines x))) (cut_again (FILE_BYTES + 1) text)
+    ∙ ap (λ (over : Bool). hex.verdict t [] (sayings over (lines (limits.judged FILE_BYTES text)))) (over_still FILE_BYTES text)
 
 pub code_whole : (text : List ℕ) (program : InterpProgram) → IsCode (limits.judged CODE_BYTES text) program → IsCode text program
 code_whole text program h = subst (λ (x : List ℕ). IsCode x program) (uncut CODE_BYTES text h.1) h

@@ -1,12 +1,16 @@
 -- What the files of a command hold, and the answers that follow.
-use Rattle.std.proofs.Common.{◌≡◌, ◌⊎◌, inl, inr, ℕ, ◌≤◌, Bool, true, false, List, length, Option, Some, None, Result, Ok, Err, refl, sym, ap, ◌∙◌, subst, le_refl, arith}
+use Rattle.std.proofs.Common.{◌≡◌, ◌⊎◌, inl, inr, ℕ, ◌≤◌, Bool, true, false, List, length, Option, Some, None, Result, Ok, Err, refl, sym, ap, ◌∙◌, subst, le_refl, arith, IfOk, IfErr}
+use Rattle.std.proofs.Math.Path.{fun_ext}
 use Rattle.ld_base.specs.Bytes.{Held, SameHeld}
 use Rattle.ld_base.specs.Counts.{Counts, Rose}
 use Rattle.ladder_tree.specs.declared.fault.ProjectFault.{ProjectFault}
 use Rattle.ladder_tree.specs.declared.names.Names.{Names}
 use Rattle.ladder_tree.specs.Names.{names_of}
 use Rattle.ladder_tree.specs.declared.project.Project.{Project}
-use Rattle.chip_tables.specs.declared.target.Target.TheVariants.{Interp}
+use Rattle.chip_tables.specs.declared.target.Target.TheVariants.{Mega16, Interp, AnsiC}
+use Rattle.intel_hex.specs.Verdict.{hex_verdict}
+use Rattle.intel_hex.specs.declared.fault.HexFault.{HexFault}
+use Rattle.intel_hex.specs.declared.image.Image.{Image}
 use Rattle.texts.specs.declared.limits.TheConstants.{FILE_BYTES, CODE_BYTES}
 use Rattle.ladder_trace.specs.Trace as trace
 use Rattle.ladder_trace.specs.declared.trace.Trace.{Trace}
@@ -22,18 +26,20 @@ use Rattle.trace_run.specs.Run.{IsProgramOf}
 use Rattle.ldmicro_top.specs.declared.status.InputFault.TheVariants as input
 use Rattle.ldmicro_top.specs.declared.status.Status.{Status}
 use Rattle.ldmicro_top.specs.declared.status.Status.TheVariants as status
+use Rattle.ldmicro_top.specs.Command.{Replay}
+use Rattle.ldmicro_top.specs.Ran.{ReplaysHeld, IsReplayed}
+use Rattle.ldmicro_top.specs.declared.traced.FileRun.{FileRun}
 use Rattle.ldmicro_top.specs.Code.{IsCode, IsCodeRefusedAt}
-use Rattle.ldmicro_top.specs.Expected.{HeldAnswers, ProjectAnswers, CodeAnswers, NoMachineAnswers, FileAnswers, TraceAnswers, AnswersOf, is_fault, is_end}
-use Rattle.ldmicro_top.specs.HasMachine.{has_machine}
+use Rattle.ldmicro_top.specs.Expected.{HeldAnswers, ProjectAnswers, CodeAnswers, HexAnswersOf, HexAnswers, NoMachineAnswers, FileAnswers, TraceAnswers, AnswersOf, ReplayAnswers, Expected, is_fault, is_end}
 use Rattle.ldmicro_top.specs.Judged.{IsJudged}
 use Rattle.ldmicro_top.specs.Replayed.{SameNames, replayed}
 use Rattle.ldmicro_top.specs.Replays.{Replays}
-use Rattle.ldmicro_top.specs.Sources.{HoldsProject, HoldsTrace, HoldsCode}
-use Rattle.ldmicro_top.specs.Steps.{OnlyReads, Declined, status_of_source}
+use Rattle.ldmicro_top.specs.Sources.{HoldsProject, HoldsTrace, HoldsCode, HoldsHex}
+use Rattle.ldmicro_top.specs.Steps.{OnlyReads, Declined, status_of_source, lines_of_file, end_of_file}
 use Rattle.ldmicro_top.specs.Verdict.{verdict}
-use Rattle.ldmicro_top.proofs.CutLemmas.{Found, verdict_whole, code_whole, code_refused_whole}
+use Rattle.ldmicro_top.proofs.CutLemmas.{Found, verdict_whole, hex_whole, code_whole, code_refused_whole}
 use Rattle.ldmicro_top.proofs.RoomLemmas.{few}
-use Rattle.ldmicro_top.proofs.TargetLemmas.{machine_only, text_only, read_target, replays_on, file_on, file_c}
+use Rattle.ldmicro_top.proofs.TargetLemmas.{replays_on, file_on, file_c, file_hex}
 
 -- two steps that only read are one
 pub both_read : (told : Bool) (a b c : Counts) (h k l : Held) → OnlyReads told a b h k → OnlyReads told b c k l → OnlyReads told a c h l
@@ -141,10 +147,6 @@ pub project_more : (go_on : Project → Status → Type 0) (o : Option (List ℕ
     → HeldAnswers (ProjectAnswers go_on) o s
 project_more go_on o s h = held_more (ProjectAnswers NoGo) (ProjectAnswers go_on) o s (refused_more go_on s) h
 
--- a project that is held, for a target with a machine, is for the interpreter
-pub held_target : (held : Held) (name : List ℕ) (p : Project) → has_machine p.target ≡ true → HoldsProject held name p → p.target ≡ Interp
-held_target held name p m h = machine_only p.target (read_target (judged h.text) p h.accepted.0) m
-
 pub project_on : (go_on : Project → Status → Type 0) (held : Held) (name : List ℕ) (p : Project) (s : Status) → HoldsProject held name p → go_on p s
     → HeldAnswers (ProjectAnswers go_on) (held name) s
 project_on go_on held name p s h on = held_text (ProjectAnswers go_on) held name h.text s h.read (inl (p, h.accepted, on))
@@ -231,10 +233,40 @@ file_more p go_on o s e h =
     (λ text k. file_on p (go_on text) text s e (differs_more (names_of p.rungs) (go_on text) s text k)) h
 
 -- a file that no machine runs is not asked for what it says
-pub file_declined : (p : Project) (go_on : List ℕ → Status → Type 0) (o : Option (List ℕ)) (s : Status) → has_machine p.target ≡ false
+pub file_declined : (p : Project) (go_on : List ℕ → Status → Type 0) (o : Option (List ℕ)) (s : Status) → p.target ≡ AnsiC
     → HeldAnswers NoMachineAnswers o s → HeldAnswers (OfFile p go_on) o s
-file_declined p go_on o s m h =
-    held_more NoMachineAnswers (OfFile p go_on) o s (λ text k. file_c p (go_on text) text s (text_only p.target m) k) h
+file_declined p go_on o s e h = held_more NoMachineAnswers (OfFile p go_on) o s (λ text k. file_c p (go_on text) text s e k) h
+
+-- HEX files.
+
+pub holds_hex : (held : Held) (name part : List ℕ) (image : Image) → Found FILE_BYTES held name part → hex_verdict Mega16 part ≡ Ok image
+    → HoldsHex held name image
+holds_hex held name part image f h =
+    record { text = f.0; read = f.1; is = sym (hex_whole Mega16 f.0) ∙ ap (hex_verdict Mega16) (sym f.2) ∙ h }
+
+pub refused_hex : (held : Held) (name part : List ℕ) (fault : HexFault) → Found FILE_BYTES held name part → hex_verdict Mega16 part ≡ Err fault
+    → HeldAnswers (HexAnswers (λ s. ⊥)) (held name) (status.BadInput (input.Hex fault.line fault.cause))
+refused_hex held name part fault f h =
+    let same : hex_verdict Mega16 f.0 ≡ Err fault = sym (hex_whole Mega16 f.0) ∙ ap (hex_verdict Mega16) (sym f.2) ∙ h in
+    let answer = status.BadInput (input.Hex fault.line fault.cause) in
+    held_text (HexAnswers (λ s. ⊥)) held name f.0 answer f.1 (subst (λ (v : Result Image HexFault). HexAnswersOf (λ s. ⊥) v answer) (sym same) refl)
+
+hex_stops : (go_on : Status → Type 0) (s : Status) (v : Result Image HexFault) → HexAnswersOf (λ t. ⊥) v s → HexAnswersOf go_on v s
+hex_stops go_on s (Ok image) h = absurd h
+hex_stops go_on s (Err fault) h = h
+
+-- what refuses a HEX file refuses all that is asked of it
+pub hex_more : (p : Project) (go_on : List ℕ → Status → Type 0) (o : Option (List ℕ)) (s : Status) → p.target ≡ Mega16
+    → HeldAnswers (HexAnswers (λ t. ⊥)) o s → HeldAnswers (OfFile p go_on) o s
+hex_more p go_on o s e h =
+    held_more (HexAnswers (λ t. ⊥)) (OfFile p go_on) o s
+    (λ text k. file_hex p (go_on text) text s e (hex_stops (go_on text) s (hex_verdict Mega16 text) k)) h
+
+pub hex_taken : (p : Project) (go_on : List ℕ → Status → Type 0) (held : Held) (name : List ℕ) (image : Image) (s : Status) → p.target ≡ Mega16
+    → (h : HoldsHex held name image) → go_on h.text s → HeldAnswers (OfFile p go_on) (held name) s
+hex_taken p go_on held name image s e h on =
+    held_text (OfFile p go_on) held name h.text s h.read
+    (file_hex p (go_on h.text) h.text s e (subst (λ (v : Result Image HexFault). HexAnswersOf (go_on h.text) v s) (sym h.is) on))
 
 pub file_taken : (p : Project) (go_on : List ℕ → Status → Type 0) (held : Held) (name : List ℕ) (program : IntProgram) (s : Status) → p.target ≡ Interp
     → (h : HoldsCode held name (names_of p.rungs) program) → go_on h.text s
@@ -290,3 +322,38 @@ said_runs n said h sound same = record {
   inputs = sound.input_count ∙ ap length same.inputs;
   analogs = sound.analog_count ∙ ap length same.analogs;
 }
+
+-- Files that are run for a project.
+
+if_ok : {A E : Type 0} (P Q : A → Type 0) (r : Result A E) → ((x : A) → P x → Q x) → IfOk r P → IfOk r Q
+if_ok P Q (Ok x) more h = more x h
+if_ok P Q (Err e) more h = tt
+
+if_err : {A E : Type 0} (P Q : E → Type 0) (r : Result A E) → ((e : E) → P e → Q e) → IfErr r P → IfErr r Q
+if_err P Q (Ok x) more h = tt
+if_err P Q (Err e) more h = more e h
+
+module _ (told : Bool) (old mid : Held) (name file trace : List ℕ) (p : Project) (a b : Counts) (reads : OnlyReads told a b old mid)
+    (holds : told ≡ true → HoldsProject old name p) where
+  same_held : told ≡ true → mid ≡ old
+  same_held y = fun_ext (reads.same y)
+
+  pub source_declines : (c : Counts) (s : Status) → Declined told (ReplayAnswers mid file trace p) b c s → Declined told (Expected (Replay name file trace) old) a c s
+  source_declines c s d =
+      declined_behind told (ReplayAnswers mid file trace p) (Expected (Replay name file trace) old) a b c old mid s reads
+      (λ y t h. project_on (ReplayAnswers old file trace) old name p t (holds y) (subst (λ (h : Held). ReplayAnswers h file trace p t) (same_held y) h)) d
+
+  pub source_replays : (r : Result FileRun Status) → (told ≡ true → IfOk r (λ x. ReplaysHeld mid file trace p (lines_of_file x) (end_of_file x)))
+      → told ≡ true → IfOk r (λ x. IsReplayed name file trace old (lines_of_file x) (end_of_file x))
+  source_replays r h y =
+      if_ok (λ x. ReplaysHeld mid file trace p (lines_of_file x) (end_of_file x)) (λ x. IsReplayed name file trace old (lines_of_file x) (end_of_file x)) r
+      (λ x k. record {
+        project = p;
+        source = holds y;
+        runs = subst (λ (h : Held). ReplaysHeld h file trace p (lines_of_file x) (end_of_file x)) (same_held y) k;
+      }) (h y)
+
+  pub source_refuses : (c : Counts) (r : Result FileRun Status) → IfErr r (Declined told (ReplayAnswers mid file trace p) b c)
+      → IfErr r (Declined told (Expected (Replay name file trace) old) a c)
+  source_refuses c r h =
+      if_err (Declined told (ReplayAnswers mid file trace p) b c) (Declined told (Expected (Replay name file trace) old) a c) r (source_declines c) h

@@ -13,3 +13,5 @@ pub mod MemberLemmas
 pub mod NamedLemmas
 pub mod RoomLemmas
 pub mod VariableLemmas
+pub mod AvrLemmas
+pub mod BuiltLemmas

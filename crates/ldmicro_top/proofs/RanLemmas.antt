@@ -1,17 +1,70 @@
 -- From the steps to a whole run.
-use Rattle.std.proofs.Common.{◌≡◌, ◌⊎◌, inl, inr, ℕ, ◌≤◌, Bool, true, false, List, [], ◌∷◌, ◌++◌, refl, sym, ap, ◌∙◌, subst, ⊎_elim, append-nil, cond, Some}
+use Rattle.std.proofs.Common.{◌≡◌, ◌⊎◌, inl, inr, ℕ, ◌≤◌, Bool, true, false, List, [], ◌∷◌, ◌++◌, refl, sym, ap, ◌∙◌, subst, ⊎_elim, append-nil, append_assoc, cond, Some, arith}
 use Rattle.std.specs.Str.{bytes_eq}
 use Rattle.ld_base.specs.Counts.{Counts, Rose}
 use Rattle.ld_base.specs.Bytes.{Held, SameHeld, HoldsThen}
+use Rattle.ld_base.specs.declared.files.FileFault.{FileFault}
+use Rattle.ld_base.specs.declared.files.FileFault.TheVariants as file
 use Rattle.ldmicro_top.specs.declared.status.Status.{Status}
 use Rattle.ldmicro_top.specs.declared.status.Status.TheVariants.{Ok, Usage, Refused, ReadFault, WriteFault, NoMemory, BadInput, NoCycleEnd, Stuck}
 use Rattle.ldmicro_top.specs.Command.{Command, Compile}
 use Rattle.ldmicro_top.specs.Expected.{Expected, is_fault, is_cut, is_end}
 use Rattle.ldmicro_top.specs.StatusLine.{line_of}
 use Rattle.ldmicro_top.specs.Ran.{Ran, IsCompiled, Makes, DestHolds, Prints, IsFrontOf, ReadsFiles, WritesFile, ReadCause, WriteCause, IsFrontPrinted, IsFrontHeld, IsComplete}
-use Rattle.ldmicro_top.specs.Steps.{Told, Declined, Unwritten}
+use Rattle.avr_file.specs.Run as avr
+use Rattle.chip_run.specs.declared.end.RunEnd.{RunEnd}
+use Rattle.chip_run.specs.declared.end.RunEnd.TheVariants as run
+use Rattle.ldmicro_top.specs.Replays.{status_of_run}
+use Rattle.ldmicro_top.specs.Steps.{Told, Declined, Unwritten, end_of_file, status_of}
+use Rattle.ldmicro_top.specs.declared.traced.FileRun.{FileRun}
+use Rattle.ldmicro_top.specs.declared.traced.FileRun.TheVariants.{Interp, Avr}
 use Rattle.ldmicro_top.specs.World.{World}
 use Rattle.ldmicro_top.proofs.GoodLemmas.{compiled_good}
+
+-- how a chip's run ends ends what was asked for
+run_ends : (e : RunEnd) → is_end (status_of_run e) ≡ true
+run_ends run.Done = refl
+run_ends (run.Late cycle) = refl
+run_ends (run.Stuck cycle at) = refl
+
+pub is_end_of_file : (r : FileRun) → is_end (end_of_file r) ≡ true
+is_end_of_file (Interp r) = refl
+is_end_of_file (Avr r) = run_ends (avr.end_of_run r)
+
+-- a text that is written behind another
+pub told_behind : (shown : Bool) (f g h : ℕ) (w x y first line : List ℕ) (wanted status : Status) → f ≤ g → (shown ≡ true → x ≡ w ++ first)
+    → Told shown g h x y line wanted status → Told shown f h w y (first ++ line) wanted status
+told_behind shown f g h w x y first line wanted status later is t = record {
+  cases = ⊎_elim
+      (λ e. inl (e.0, λ s. e.1 s ∙ ap (λ z. z ++ line) (is s) ∙ append_assoc w first line))
+      (⊎_elim (λ r. inr (inl (r.0, rose f g h later r.1))) (λ e. inr (inr e)))
+      t.cases;
+  later = let all = t.later in omega arith;
+  part = λ s.
+      let p = t.part s in
+      (first ++ p.0, p.1 ∙ ap (λ z. z ++ p.0) (is s) ∙ append_assoc w first p.0, (p.2.0, ap (λ z. first ++ z) p.2.1 ∙ sym (append_assoc first p.0 p.2.0)));
+}
+  where
+    rose : (a b c : ℕ) → a ≤ b → Rose b c → Rose a c
+    rose a b c later r = omega arith
+
+-- lines of which a front was written, where the output failed or memory was wanting
+pub unfinished : (shown : Bool) (f g : ℕ) (w x first : List ℕ) (ending : Status) (fault : FileFault) (status : Status) → status ≡ status_of fault → f ≤ g
+    → (fault ≡ file.Failed → Rose f g)
+    → (shown ≡ true → (front : List ℕ) × (rest : List ℕ) × (first ≡ front ++ rest) × (x ≡ w ++ front))
+    → Told shown f g w x (first ++ line_of ending) ending status
+unfinished shown f g w x first ending fault status is later rose part = record {
+  cases = by fault is rose;
+  later = later;
+  part = λ s.
+      let p = part s in
+      (p.0, p.3, (p.1 ++ line_of ending, ap (λ z. z ++ line_of ending) p.2 ∙ append_assoc p.0 p.1 (line_of ending)));
+}
+  where
+    by : (e : FileFault) → status ≡ status_of e → (e ≡ file.Failed → Rose f g)
+        → ((status ≡ ending) × (shown ≡ true → x ≡ w ++ (first ++ line_of ending))) ⊎ (((status ≡ WriteFault) × Rose f g) ⊎ (status ≡ NoMemory))
+    by file.Failed is rose = inr (inl (is, rose refl))
+    by (file.Memory e) is rose = inr (inr is)
 
 -- no count fell
 pub record Later (old new : World) : Type 0 where

@@ -1,14 +1,21 @@
 -- What fits its target.
-use Rattle.std.proofs.Common.{◌≡◌, ℕ, ◌≤◌, Bool, true, false, cond, nat_lt, length, Some, None, refl, arith}
+use Rattle.std.proofs.Common.{◌≡◌, ℕ, ◌*◌, ◌≤◌, Bool, true, false, cond, nat_lt, length, Option, Some, None, refl, sym, ap, subst, arith}
 use Rattle.std.proofs.lemmas.Bool.Decides.{nat_tests}
 use Rattle.std.specs.Option.{option_map}
 use Rattle.chip_tables.specs.Memory.{ram_size, eeprom_size}
 use Rattle.chip_tables.specs.declared.memory.TheConstants.{EEPROM_MOST}
 use Rattle.chip_tables.specs.declared.target.Target.{Target}
 use Rattle.chip_tables.specs.declared.target.Target.TheVariants.{F628, F877, Mega16, Interp, AnsiC}
+use Rattle.ladder_tree.specs.Names.{names_of}
 use Rattle.ladder_tree.specs.declared.names.Names.{Names}
+use Rattle.ladder_tree.specs.declared.project.Project.{Project}
+use Rattle.chip_run.specs.Shown.{IsPlanOf}
 use Rattle.ladder_lower.specs.Outcome.{IsSmall}
 use Rattle.mem_plan.specs.Needs.{AreNumbers, ram_need, eeprom_need}
+use Rattle.mem_plan.specs.Misfit as plan
+use Rattle.mem_plan.specs.Places.{IsChip}
+use Rattle.mem_plan.specs.declared.fault.PlanFault.{PlanFault}
+use Rattle.mem_plan.specs.declared.places.Plan.{Plan}
 use Rattle.mem_plan.specs.declared.fault.PlanFault.TheVariants.{RamFull, EepromFull}
 use Rattle.ldmicro_top.specs.Verdict.{refusal_of, kept_of, misfit}
 
@@ -51,3 +58,29 @@ few t n h =
     let ram = not_over (ram_size t) (ram_need s) o.0 in
     let eeprom = not_over (eeprom_size t) (eeprom_need s) o.1 in
     record { variables = omega (arith, ram, ram_most t); persistent = omega (arith, eeprom, eeprom_most t) }
+
+unrefused : (o : Option PlanFault) → option_map refusal_of o ≡ None → o ≡ None
+unrefused None h = refl
+unrefused (Some f) h = absurd cc
+
+-- what fits has a plan
+pub planned : (t : Target) (n : Names) → misfit t n ≡ None → plan.misfit (kept_of n) t ≡ None
+planned t n h = unrefused (plan.misfit (kept_of n) t) h
+
+-- which on the ATmega16 is that of its names
+pub is_plan : (p : Project) (n : Names) (plan : Plan) → p.target ≡ Mega16 → plan.target ≡ p.target → plan.sizes ≡ kept_of n → IsPlanOf p n plan
+is_plan p n plan e target sizes = record {
+  chip = subst IsChip (sym e) refl;
+  target = target;
+  variables = ap (λ s. s.variables) sizes;
+  kept_bits = ap (λ s. s.kept_bits) sizes;
+  persistent = ap (λ s. s.persistent) sizes;
+}
+
+-- where there is room for what is persistent
+pub eeprom_room : (p : Project) → misfit p.target (names_of p.rungs) ≡ None → 2 * length (names_of p.rungs).persistent ≤ eeprom_size p.target
+eeprom_room p h =
+    let s = kept_of (names_of p.rungs) in
+    let t = p.target in
+    not_over (eeprom_size t) (eeprom_need s)
+    (none_over (nat_lt (ram_size t) (ram_need s)) (nat_lt (eeprom_size t) (eeprom_need s)) (ram_need s) (ram_size t) (eeprom_need s) (eeprom_size t) h).1

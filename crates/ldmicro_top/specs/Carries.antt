@@ -17,6 +17,7 @@ use Rattle.ladder_lower.specs.Correct.{ShowsEnd}
 use Rattle.c_output.specs.Text.{c_text}
 use Rattle.interp_code.specs.declared.program.InterpProgram.{InterpProgram}
 use Rattle.interp_code.specs.Program.{IsProgram}
+use Rattle.avr_file.specs.Carries.{CarriesHex}
 
 -- a cycle ends as the ladder's does, and at most so many operations were executed
 pub record EndsWithin (n : Names) (most : ℕ) (e : Ended) (m : Moment) : Type 0 where
@@ -48,13 +49,13 @@ pub record CarriesInterp (p : Project) (code : List ℕ) (most : ℕ) : Type 0 w
       (history p (start p eeprom) (map (seen (names_of p.rungs)) rs))
       (int.history program.program.ops (store.start program.program.starts eeprom) rs)
 
--- On a target the bytes do what the project's ladder means. At most so many cycles pass in a cycle of the ladder, and so many before the first: operations
--- of the interpreter, which has none before the first. A C text is that of the ladder, and what its compiler makes of it is not spoken of. Of a target that
--- is not built no bytes carry a project.
+-- On a target the bytes do what the project's ladder means. At most so many cycles pass in a cycle of the ladder, and so many before the first: instruction
+-- cycles of a chip, and operations of the interpreter, which has none before the first. A C text is that of the ladder, and what its compiler makes of it is
+-- not spoken of. Of a target that is not built no bytes carry a project.
 abbrev pub CarriesOn : Target → Project → List ℕ → ℕ → ℕ → Type 0
 CarriesOn F628 p code cycles boot = ⊥
 CarriesOn F877 p code cycles boot = ⊥
-CarriesOn Mega16 p code cycles boot = ⊥
+CarriesOn Mega16 p code cycles boot = CarriesHex p code cycles boot
 CarriesOn Interp p code cycles boot = CarriesInterp p code cycles
 CarriesOn AnsiC p code cycles boot = code ≡ c_text p
 

@@ -10,6 +10,9 @@ use Rattle.ladder_tree.specs.Names.{names_of}
 use Rattle.ladder_trace.specs.Trace as trace
 use Rattle.ladder_trace.specs.declared.trace.Trace.{Trace}
 use Rattle.ld_text.specs.Text.{IsReadAs, text_fault, judged}
+use Rattle.intel_hex.specs.Verdict.{hex_verdict}
+use Rattle.intel_hex.specs.declared.fault.HexFault.{HexFault}
+use Rattle.intel_hex.specs.declared.image.Image.{Image}
 use Rattle.interp_code.specs.declared.program.InterpProgram.{InterpProgram}
 use Rattle.ldmicro_top.specs.Code.{IsCode, IsCodeRefusedAt}
 use Rattle.ldmicro_top.specs.Verdict.{verdict, code_fault}
@@ -62,6 +65,14 @@ CodeAnswers n go_on text answer =
     × ((SameNames n program.names × go_on answer) ⊎ ((SameNames n program.names → ⊥) × (answer ≡ status.BadInput (input.OtherProject program.code_line)))))
     ⊎ ((line : ℕ) × IsCodeRefusedAt text line × (answer ≡ status.BadInput (input.Interp line)))
 
+-- a HEX file is refused at a line, or what is asked of its image goes on
+abbrev pub HexAnswersOf : (Status → Type 0) → Result Image HexFault → Status → Type 0
+HexAnswersOf go_on (Ok image) answer = go_on answer
+HexAnswersOf go_on (Err fault) answer = answer ≡ status.BadInput (input.Hex fault.line fault.cause)
+
+abbrev pub HexAnswers : (Status → Type 0) → List ℕ → Status → Type 0
+HexAnswers go_on file answer = HexAnswersOf go_on (hex_verdict Mega16 file) answer
+
 -- a file that no machine runs
 abbrev pub NoMachineAnswers : List ℕ → Status → Type 0
 NoMachineAnswers file answer = answer ≡ status.BadInput input.NoMachine
@@ -70,7 +81,7 @@ NoMachineAnswers file answer = answer ≡ status.BadInput input.NoMachine
 abbrev pub FileAnswersOn : Target → Names → (Status → Type 0) → List ℕ → Status → Type 0
 FileAnswersOn F628 n go_on file answer = ⊥
 FileAnswersOn F877 n go_on file answer = ⊥
-FileAnswersOn Mega16 n go_on file answer = ⊥
+FileAnswersOn Mega16 n go_on file answer = HexAnswers go_on file answer
 FileAnswersOn Interp n go_on file answer = CodeAnswers n go_on file answer
 FileAnswersOn AnsiC n go_on file answer = NoMachineAnswers file answer
 

@@ -9,6 +9,7 @@ pub mod Carries
 pub mod Code
 pub mod Replays
 pub mod Replayed
+pub mod Agree
 pub mod Report
 pub mod HasMachine
 pub mod StatusLine

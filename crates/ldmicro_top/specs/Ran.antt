@@ -1,5 +1,5 @@
 -- What a run answers and leaves.
-use Rattle.std.specs.Prelude.{◌≡◌, ◌⊎◌, ℕ, ◌≤◌, Bool, true, false, List, [], ◌++◌, Some}
+use Rattle.std.specs.Prelude.{◌≡◌, ◌⊎◌, ℕ, ◌≤◌, Bool, true, false, List, [], ◌++◌, Some, None}
 use Rattle.ld_base.specs.Counts.{Rose}
 use Rattle.ld_base.specs.Bytes.{Held, SameHeld, HoldsThen}
 use Rattle.ladder_tree.specs.declared.project.Project.{Project}
@@ -16,6 +16,7 @@ use Rattle.ldmicro_top.specs.Command.{Command, Compile, Simulate, Replay, Other}
 use Rattle.ldmicro_top.specs.Expected.{Expected, is_fault, is_cut, is_end}
 use Rattle.ldmicro_top.specs.Report.{Reports}
 use Rattle.ldmicro_top.specs.StatusLine.{line_of}
+use Rattle.ldmicro_top.specs.Verdict.{code_fault}
 use Rattle.ldmicro_top.specs.World.{World}
 
 abbrev pub IsFrontOf : List ℕ → List ℕ → Type 0
@@ -27,9 +28,11 @@ pub record IsEmitted (project : Project) (code printed : List ℕ) : Type 0 wher
   pub cycles : ℕ
   pub boot : ℕ
   pub carries : Carries project code cycles boot
+  -- the chip has room for what the project may need
+  pub room : code_fault project ≡ None
   pub cycles_few : cycles ≤ cycle_cap project
   pub boot_few : boot ≤ boot_cap project
-  pub report : Reports project cycles boot printed
+  pub report : Reports project code cycles boot printed
 
 -- the source's project and bytes that carry it, and their report
 pub record IsCompiled (name : List ℕ) (held : Held) (code printed : List ℕ) : Type 0 where
@@ -45,15 +48,19 @@ pub record IsSimulated (name trace : List ℕ) (held : Held) (printed : List ℕ
   pub given : HoldsTrace held trace (names_of project.rungs) steps
   pub lines : printed ≡ simulated project steps
 
--- a line for each finished cycle of the trace, as the source's target runs the file, and how the run ends
-pub record IsReplayed (name file trace : List ℕ) (held : Held) (printed : List ℕ) (ending : Status) : Type 0 where
-  pub project : Project
-  pub source : HoldsProject held name project
+-- a line for each finished cycle of the trace, as the project's target runs the file, and how the run ends
+pub record ReplaysHeld (held : Held) (file trace : List ℕ) (p : Project) (printed : List ℕ) (ending : Status) : Type 0 where
   pub code : List ℕ
   pub read : held file ≡ Some code
   pub steps : Trace
-  pub given : HoldsTrace held trace (names_of project.rungs) steps
-  pub runs : Replays project code steps printed ending
+  pub given : HoldsTrace held trace (names_of p.rungs) steps
+  pub runs : Replays p code steps printed ending
+
+-- that of the source's project
+pub record IsReplayed (name file trace : List ℕ) (held : Held) (printed : List ℕ) (ending : Status) : Type 0 where
+  pub project : Project
+  pub source : HoldsProject held name project
+  pub runs : ReplaysHeld held file trace project printed ending
 
 -- what a command writes to its destination, where it has one, what it prints, and how it ends
 abbrev pub Makes : Command → Held → List ℕ → List ℕ → Status → Type 0

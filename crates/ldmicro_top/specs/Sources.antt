@@ -1,6 +1,9 @@
 -- What names hold: projects, traces and code.
 use Rattle.std.specs.Prelude.{◌≡◌, ℕ, List, Some, Ok}
 use Rattle.ld_base.specs.Bytes.{Held}
+use Rattle.chip_tables.specs.declared.target.Target.TheVariants.{Mega16}
+use Rattle.intel_hex.specs.Verdict.{hex_verdict}
+use Rattle.intel_hex.specs.declared.image.Image.{Image}
 use Rattle.ladder_tree.specs.declared.names.Names.{Names}
 use Rattle.ladder_tree.specs.declared.project.Project.{Project}
 use Rattle.ladder_trace.specs.Trace.{verdict}
@@ -22,6 +25,12 @@ pub record HoldsTrace (held : Held) (name : List ℕ) (n : Names) (trace : Trace
   pub text : List ℕ
   pub read : held name ≡ Some text
   pub given : verdict n text ≡ Ok trace
+
+-- a HEX file with this image
+pub record HoldsHex (held : Held) (name : List ℕ) (image : Image) : Type 0 where
+  pub text : List ℕ
+  pub read : held name ≡ Some text
+  pub is : hex_verdict Mega16 text ≡ Ok image
 
 -- the text of a program with these names
 pub record HoldsCode (held : Held) (name : List ℕ) (n : Names) (p : IntProgram) : Type 0 where

@@ -4,6 +4,8 @@ use Rattle.std.specs.Fmt.{decimal}
 use Rattle.hex.specs.Hex.{encode_upper}
 use Rattle.chip_tables.specs.declared.outside.StuckCause.{StuckCause}
 use Rattle.chip_tables.specs.declared.outside.StuckCause.TheVariants as cause
+use Rattle.intel_hex.specs.declared.fault.HexCause.{HexCause}
+use Rattle.intel_hex.specs.declared.fault.HexCause.TheVariants as hex
 use Rattle.ladder_tree.specs.Fault.{number_of, name_of}
 use Rattle.ladder_tree.specs.declared.fault.ProjectFault.{ProjectFault}
 use Rattle.ladder_tree.specs.declared.fault.ProjectFault.TheVariants.{NotProject, BadLine, LineTooLong, TooDeep, TooMany, Unclosed, UnknownChip, NumberRange, NotRightmost, WrongKind, TimerTwice, TimerShort, TimerLong, NoAdc, NoPwm, PwmTwoRates, PinUnassigned, PinTwice, NoSuchPin, PinTaken, CycleRange, BaudRange, PwmRange, RamFull, EepromFull, CodeFull, NotBuilt}
@@ -60,11 +62,20 @@ place_text (at.Twice line first) = codes "line " ++ (decimal line ++ (codes " fi
 place_text (at.Pin line pin) = codes "line " ++ (decimal line ++ (codes " pin " ++ decimal pin))
 place_text (at.Need need have) = codes "need " ++ (decimal need ++ (codes " have " ++ decimal have))
 
+-- what is wrong with a line of a HEX file
+abbrev pub hex_cause_name : HexCause → List ℕ
+hex_cause_name hex.BadRecord = codes "BadRecord"
+hex_cause_name hex.BadSum = codes "BadSum"
+hex_cause_name hex.Outside = codes "Outside"
+hex_cause_name hex.Overlap = codes "Overlap"
+hex_cause_name hex.NoEnd = codes "NoEnd"
+
 -- what is wrong with a file, and where
 abbrev pub input_text : InputFault → List ℕ
 input_text (input.Interp line) = codes "file line " ++ decimal line
 input_text input.NoMachine = codes "file no machine"
 input_text (input.OtherProject line) = codes "file line " ++ (decimal line ++ codes " other project")
+input_text (input.Hex line cause) = codes "file line " ++ (decimal line ++ (codes " " ++ hex_cause_name cause))
 input_text (input.Trace line) = codes "trace line " ++ decimal line
 
 -- the lowest 16 bits as four upper-case hexadecimal digits

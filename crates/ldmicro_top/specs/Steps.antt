@@ -9,10 +9,14 @@ use Rattle.ld_base.specs.declared.files.OpenFault.TheVariants as opening
 use Rattle.project_file.specs.declared.fault.SourceFault.{SourceFault}
 use Rattle.project_file.specs.declared.fault.SourceFault.TheVariants as source
 use Rattle.ldmicro_top.specs.declared.status.Status.{Status}
-use Rattle.ldmicro_top.specs.declared.status.Status.TheVariants.{Refused, ReadFault, WriteFault, NoMemory}
+use Rattle.ldmicro_top.specs.declared.status.Status.TheVariants.{Ok, Refused, ReadFault, WriteFault, NoMemory}
 use Rattle.ladder_trace.specs.Trace.{IsTraceOf}
 use Rattle.trace_run.specs.Run.{IsProgramOf, sim_lines}
+use Rattle.avr_file.specs.Run as avr
 use Rattle.ldmicro_top.specs.declared.traced.TraceRun.{TraceRun}
+use Rattle.ldmicro_top.specs.declared.traced.FileRun.{FileRun}
+use Rattle.ldmicro_top.specs.declared.traced.FileRun.TheVariants.{Interp, Avr}
+use Rattle.ldmicro_top.specs.Replays.{status_of_run}
 use Rattle.ldmicro_top.specs.Expected.{is_fault, is_end}
 use Rattle.ldmicro_top.specs.Ran.{IsFrontOf}
 
@@ -42,6 +46,20 @@ pub record IsReady (r : TraceRun) : Type 0 where
 -- the lines that a run over a trace writes
 abbrev pub lines_of_run : TraceRun → List ℕ
 lines_of_run r = sim_lines r.duty r.legal.names r.sim r.trace
+
+-- the lines that the run of a file writes, and how it ends
+abbrev pub lines_of_file : FileRun → List ℕ
+lines_of_file (Interp r) = lines_of_run r
+lines_of_file (Avr r) = avr.lines_of_run r
+
+abbrev pub end_of_file : FileRun → Status
+end_of_file (Interp r) = Ok
+end_of_file (Avr r) = status_of_run (avr.end_of_run r)
+
+-- one that can begin
+abbrev pub IsFileReady : FileRun → Type 0
+IsFileReady (Interp r) = IsReady r
+IsFileReady (Avr r) = avr.CanRun r
 
 -- why bytes were not written
 pub record Unwritten (told : Bool) (dest code : List ℕ) (old new : ℕ) (held held' : Held) (status : Status) : Type 0 where

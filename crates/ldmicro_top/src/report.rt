@@ -3,7 +3,7 @@
 ghost use Rattle.std.specs.Prelude.{◌≡◌, IfOk};
 ghost use Rattle.std.specs.String.{string_bytes};
 ghost use Rattle.ladder_lower.specs.Outcome.{IsSmall};
-ghost use Rattle.ldmicro_top.specs.Report.{report, c_report};
+ghost use Rattle.ldmicro_top.specs.Report.{report, avr_report, c_report};
 
 use crate::kept::kept_of;
 use ladder_tree::names::Names;
@@ -20,6 +20,26 @@ pub fn report(alloc: Global, names: &Names, operations: usize) -> Result<String,
     let eeprom = kept.eeprom_need();
     format!(in alloc;
         "target Interpretable\noperations {operations}\nram {ram} of 8192\neeprom {eeprom} of 512\ncycles {operations}\n"
+    )
+}
+
+/// The report for the ATmega16: how many words of program flash the code fills, what it keeps, and how many instruction cycles pass at most in a
+/// cycle of the ladder and before the first.
+pub fn avr_report(
+    alloc: Global,
+    names: &Names,
+    words: u32,
+    cycles: u32,
+    boot: u32,
+) -> Result<String, AllocError>
+    requires { IsSmall names.now }
+    ensures { IfOk result (λ text. string_bytes text ≡ avr_report names.now words cycles boot) }
+{
+    let kept = kept_of(names);
+    let ram = kept.ram_need();
+    let eeprom = kept.eeprom_need();
+    format!(in alloc;
+        "target ATmega16\nwords {words} of 8192\nram {ram} of 960\neeprom {eeprom} of 512\ncycles {cycles}\nboot {boot}\n"
     )
 }
 

@@ -1,18 +1,22 @@
 //! The top call, over any files and any output.
 
-ghost use Rattle.std.specs.Prelude.{◌≡◌, ◌≤◌, true, map, IfErr, OnOk};
+ghost use Rattle.std.specs.Prelude.{◌≡◌, ◌≤◌, ◌++◌, true, map, IfErr, OnOk};
 ghost use Rattle.std.specs.Rc.{rc_str_bytes};
 ghost use Rattle.ld_base.specs.Bytes.{HoldsThen};
 ghost use Rattle.ldmicro_top.specs.Command.{command_of, Compile, Simulate, Replay};
 ghost use Rattle.ldmicro_top.specs.Ran.{Ran, IsComplete};
 ghost use Rattle.ldmicro_top.specs.World.{world};
 ghost use Rattle.ldmicro_top.specs.StatusLine.{line_of};
-ghost use Rattle.ldmicro_top.specs.Steps.{Told, Unwritten, status_of, lines_of_run, IsReady};
+ghost use Rattle.ldmicro_top.specs.Steps.{Told, Unwritten, status_of, lines_of_run, IsReady, lines_of_file, end_of_file, IsFileReady};
+ghost use Rattle.avr_file.specs.Run as avr;
+ghost use Rattle.ldmicro_top.specs.Replays.{status_of_run};
 
 use crate::sources::{take_compiled, take_replay, take_simulation};
 use crate::status::{Status, status_line};
-use crate::traced::TraceRun;
+use crate::traced::{FileRun, TraceRun};
 use crate::words::{Request, requested};
+use avr_file::run::AvrRun;
+use chip_run::end::RunEnd;
 use ld_base::files::{FileFault, Files, Out};
 use ld_base::whole::{write_file, write_out};
 use std::alloc::Global;
@@ -102,6 +106,39 @@ fn show<O: Out>(alloc: Global, out: &mut O, run: TraceRun) -> Status
     }
 }
 
+/// How a chip's run ended.
+fn status_of_run(end: RunEnd) -> Status
+    ensures { result ≡ status_of_run end }
+{
+    match end {
+        RunEnd::Done => Status::Ok,
+        RunEnd::Late { cycle } => Status::NoCycleEnd { cycle },
+        RunEnd::Stuck { cycle, at } => Status::Stuck { cycle, at },
+    }
+}
+
+/// Writes the lines of a run on the ATmega16 over a trace, and then the line of its end.
+fn show_avr<O: Out>(alloc: Global, out: &mut O, run: AvrRun) -> Status
+    requires { avr.CanRun run }
+    ensures { Told O.tells (O.fault_count out.old) (O.fault_count out.new) (O.written out.old) (O.written out.new) (avr.lines_of_run run ++ line_of (status_of_run (avr.end_of_run run))) (status_of_run (avr.end_of_run run)) result }
+{
+    match run.print(alloc, out) {
+        Ok(end) => tell(alloc, out, status_of_run(end)),
+        Err(fault) => status_of(fault),
+    }
+}
+
+/// Writes the lines of a file's run over a trace, and then the line of its end.
+fn show_file<O: Out>(alloc: Global, out: &mut O, run: FileRun) -> Status
+    requires { IsFileReady run }
+    ensures { Told O.tells (O.fault_count out.old) (O.fault_count out.new) (O.written out.old) (O.written out.new) (lines_of_file run ++ line_of (end_of_file run)) (end_of_file run) result }
+{
+    match run {
+        FileRun::Interp(run) => show(alloc, out, run),
+        FileRun::Avr(run) => show_avr(alloc, out, run),
+    }
+}
+
 /// Simulates a source over a trace: both are read and judged before the first line is written.
 fn simulate<F: Files, O: Out>(
     alloc: Global,
@@ -132,7 +169,7 @@ fn replay<F: Files, O: Out>(
         (world F.Files O.Out files.old out.old) (world F.Files O.Out files.new out.new) result }
 {
     match take_replay(alloc, files, source, file, trace) {
-        Ok(run) => show(alloc, out, run),
+        Ok(run) => show_file(alloc, out, run),
         Err(status) => tell(alloc, out, status),
     }
 }

@@ -4,25 +4,32 @@ ghost use Rattle.std.specs.Prelude.{◌≡◌, true, IfOk, IfErr, Decides};
 ghost use Rattle.ladder_trace.specs.Trace.{IsTraceOf};
 ghost use Rattle.trace_run.specs.Run.{IsProgramOf};
 ghost use Rattle.interp_code.specs.Machine.{IsRunnable};
-ghost use Rattle.ldmicro_top.specs.Expected.{HeldAnswers, ProjectAnswers, CodeAnswers, NoMachineAnswers, TraceAnswers, Expected};
+ghost use Rattle.ldmicro_top.specs.Expected.{HeldAnswers, ProjectAnswers, CompileAnswers, CodeAnswers, HexAnswers, NoMachineAnswers, TraceAnswers, ReplayAnswers, Expected};
 ghost use Rattle.ldmicro_top.specs.Command.{Simulate, Replay};
-ghost use Rattle.ldmicro_top.specs.Ran.{IsCompiled, IsSimulated, IsReplayed};
+ghost use Rattle.ldmicro_top.specs.Ran.{IsCompiled, IsSimulated, ReplaysHeld, IsReplayed};
 ghost use Rattle.ldmicro_top.specs.Replayed.{SameNames};
-ghost use Rattle.ldmicro_top.specs.Sources.{HoldsProject, HoldsTrace, HoldsCode};
-ghost use Rattle.ldmicro_top.specs.Steps.{OnlyReads, Declined, unread, status_of_source, lines_of_run, IsReady};
+ghost use Rattle.ldmicro_top.specs.Sources.{HoldsProject, HoldsTrace, HoldsCode, HoldsHex};
+ghost use Rattle.ldmicro_top.specs.Steps.{OnlyReads, Declined, unread, status_of_source, lines_of_run, IsReady, lines_of_file, end_of_file, IsFileReady};
 ghost use Rattle.ldmicro_top.specs.Judged.{IsJudged};
+ghost use Rattle.ldmicro_top.specs.Verdict.{code_fault};
 ghost use Rattle.std.specs.String.{string_bytes};
 
 use crate::compile::{Compiled, compile_legal};
 use crate::judge::judge;
-use crate::machine::has_machine;
+use crate::kept::plan_of;
 use crate::status::{InputFault, Status};
-use crate::traced::{TraceRun, replay, simulation};
+use crate::traced::{FileRun, TraceRun, replay, simulation};
+use avr_file::run::AvrRun;
+use chip_tables::{Target, flash_words};
+use intel_hex::fault::HexError;
+use intel_hex::image::Image;
+use intel_hex::read::read_hex;
 use interp_code::program::InterpProgram;
 use interp_code::read::{InterpError, read_interp};
 use ladder_lower::program::lower;
-use ladder_rules::Legal;
+use ladder_rules::{Legal, word_need};
 use ladder_trace::trace::{Trace, TraceError, read_trace};
+use ladder_tree::fault::ProjectFault;
 use ladder_tree::names::{NameList, Names};
 use ld_base::files::{Files, OpenFault};
 use ld_base::whole::read_file;
@@ -153,6 +160,27 @@ pub fn take_code<F: Files>(
     }
 }
 
+/// The image that a name holds as a HEX file for the ATmega16.
+fn take_hex<F: Files>(alloc: Global, files: &mut F, name: &str) -> Result<Image, Status>
+    ensures only { OnlyReads F.tells (F.counts files.old) (F.counts files.new) (F.held files.old) (F.held files.new) }
+    ensures holds { F.tells ≡ true → IfOk result (λ image. HoldsHex (F.held files.old) name.now image) }
+    ensures declined { IfErr result (Declined F.tells (HeldAnswers (HexAnswers (λ a. ⊥)) (F.held files.old name.now)) (F.counts files.old) (F.counts files.new)) }
+{
+    let text = match read_file(alloc, files, name, FILE_BYTES) {
+        Ok(text) => text,
+        Err(fault) => return Err(unread(fault)),
+    };
+    match read_hex(alloc, Target::Mega16, &text) {
+        Ok(image) => Ok(image),
+        Err(HexError::Fault(fault)) => {
+            let line = fault.line;
+            let cause = fault.cause;
+            Err(Status::BadInput(InputFault::Hex { line, cause }))
+        }
+        Err(HexError::Memory(_)) => Err(Status::NoMemory),
+    }
+}
+
 /// Reads a file that no machine runs. Answers the status that says so.
 fn decline_file<F: Files>(alloc: Global, files: &mut F, name: &str) -> Status
     ensures only { OnlyReads F.tells (F.counts files.old) (F.counts files.new) (F.held files.old) (F.held files.new) }
@@ -164,7 +192,20 @@ fn decline_file<F: Files>(alloc: Global, files: &mut F, name: &str) -> Status
     }
 }
 
-/// What a source compiles to.
+/// The code that the project's chip may have no room for.
+fn code_fault(legal: &Legal) -> Option<ProjectFault>
+    ensures { result ≡ code_fault legal.now.project }
+{
+    let have = flash_words(legal.project().target)?;
+    let need = word_need(legal);
+    if have < need {
+        Some(ProjectFault::CodeFull { need, have })
+    } else {
+        None
+    }
+}
+
+/// What a source compiles to. It is refused where the chip has no room for the code that the project may need.
 pub fn take_compiled<F: Files>(
     alloc: Global,
     files: &mut F,
@@ -172,9 +213,12 @@ pub fn take_compiled<F: Files>(
 ) -> Result<Compiled, Status>
     ensures only { OnlyReads F.tells (F.counts files.old) (F.counts files.new) (F.held files.old) (F.held files.new) }
     ensures compiled { F.tells ≡ true → IfOk result (λ c. IsCompiled source.now (F.held files.old) c.code (string_bytes c.report)) }
-    ensures declined { IfErr result (Declined F.tells (HeldAnswers (ProjectAnswers (λ p a. ⊥)) (F.held files.old source.now)) (F.counts files.old) (F.counts files.new)) }
+    ensures declined { IfErr result (Declined F.tells (HeldAnswers (ProjectAnswers CompileAnswers) (F.held files.old source.now)) (F.counts files.old) (F.counts files.new)) }
 {
     let legal = take_project(alloc, files, source)?;
+    if let Some(fault) = code_fault(&legal) {
+        return Err(Status::Refused(fault));
+    }
     match compile_legal(alloc, &legal) {
         Ok(compiled) => Ok(compiled),
         Err(_) => Err(Status::NoMemory),
@@ -205,27 +249,72 @@ pub fn take_simulation<F: Files>(
     }
 }
 
-/// The run of a file of a source's code over a trace. The file is judged before the trace is opened.
+/// The run of a project's interpretable text over a trace. The text is judged before the trace is opened.
+fn take_interp<F: Files>(
+    alloc: Global,
+    files: &mut F,
+    legal: Legal,
+    file: &str,
+    trace: &str,
+) -> Result<FileRun, Status>
+    requires target { legal.project.target ≡ Target.Interp }
+    requires judged { IsJudged legal.names legal.project }
+    ensures only { OnlyReads F.tells (F.counts files.old) (F.counts files.new) (F.held files.old) (F.held files.new) }
+    ensures ready { IfOk result IsFileReady }
+    ensures replayed { F.tells ≡ true → IfOk result (λ r. ReplaysHeld (F.held files.old) file.now trace.now legal.project (lines_of_file r) (end_of_file r)) }
+    ensures declined { IfErr result (Declined F.tells (ReplayAnswers (F.held files.old) file.now trace.now legal.project) (F.counts files.old) (F.counts files.new)) }
+{
+    let said = take_code(alloc, files, file, legal.names())?;
+    let trace = take_trace(alloc, files, trace, legal.names())?;
+    match replay(alloc, legal, said, trace) {
+        Ok(run) => Ok(FileRun::Interp(run)),
+        Err(_) => Err(Status::NoMemory),
+    }
+}
+
+/// The run of a project's HEX file over a trace on the ATmega16. The file is judged before the trace is opened.
+fn take_avr<F: Files>(
+    alloc: Global,
+    files: &mut F,
+    legal: Legal,
+    file: &str,
+    trace: &str,
+) -> Result<FileRun, Status>
+    requires target { legal.project.target ≡ Target.Mega16 }
+    requires judged { IsJudged legal.names legal.project }
+    ensures only { OnlyReads F.tells (F.counts files.old) (F.counts files.new) (F.held files.old) (F.held files.new) }
+    ensures ready { IfOk result IsFileReady }
+    ensures replayed { F.tells ≡ true → IfOk result (λ r. ReplaysHeld (F.held files.old) file.now trace.now legal.project (lines_of_file r) (end_of_file r)) }
+    ensures declined { IfErr result (Declined F.tells (ReplayAnswers (F.held files.old) file.now trace.now legal.project) (F.counts files.old) (F.counts files.new)) }
+{
+    let image = take_hex(alloc, files, file)?;
+    let trace = take_trace(alloc, files, trace, legal.names())?;
+    let plan = plan_of(&legal);
+    match AvrRun::new(alloc, legal, plan, image, &trace) {
+        Ok(run) => Ok(FileRun::Avr(run)),
+        Err(_) => Err(Status::NoMemory),
+    }
+}
+
+/// The run of a file of a source's code over a trace, on the project's target.
 pub fn take_replay<F: Files>(
     alloc: Global,
     files: &mut F,
     source: &str,
     file: &str,
     trace: &str,
-) -> Result<TraceRun, Status>
+) -> Result<FileRun, Status>
     ensures only { OnlyReads F.tells (F.counts files.old) (F.counts files.new) (F.held files.old) (F.held files.new) }
-    ensures ready { IfOk result IsReady }
-    ensures replayed { F.tells ≡ true → IfOk result (λ r. IsReplayed source.now file.now trace.now (F.held files.old) (lines_of_run r) Status.Ok) }
+    ensures ready { IfOk result IsFileReady }
+    ensures replayed { F.tells ≡ true → IfOk result (λ r. IsReplayed source.now file.now trace.now (F.held files.old) (lines_of_file r) (end_of_file r)) }
     ensures declined { IfErr result (Declined F.tells (Expected (Replay source.now file.now trace.now) (F.held files.old)) (F.counts files.old) (F.counts files.new)) }
 {
     let legal = take_project(alloc, files, source)?;
-    if !has_machine(legal.project().target) {
-        return Err(decline_file(alloc, files, file));
-    }
-    let said = take_code(alloc, files, file, legal.names())?;
-    let trace = take_trace(alloc, files, trace, legal.names())?;
-    match replay(alloc, legal, said, trace) {
-        Ok(run) => Ok(run),
-        Err(_) => Err(Status::NoMemory),
+    match legal.project().target {
+        Target::Mega16 => take_avr(alloc, files, legal, file, trace),
+        Target::AnsiC => Err(decline_file(alloc, files, file)),
+        Target::Interp | Target::F628 | Target::F877 => {
+            take_interp(alloc, files, legal, file, trace)
+        }
     }
 }

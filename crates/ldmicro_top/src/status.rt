@@ -2,9 +2,10 @@
 
 ghost use Rattle.std.specs.Prelude.{◌≡◌, IfOk};
 ghost use Rattle.std.specs.String.{string_bytes};
-ghost use Rattle.ldmicro_top.specs.StatusLine.{code_of, line_of, place_of, four_digits, cause_name};
+ghost use Rattle.ldmicro_top.specs.StatusLine.{code_of, line_of, place_of, four_digits, cause_name, hex_cause_name};
 
 use chip_tables::{StuckAt, StuckCause};
+use intel_hex::fault::HexCause;
 use ladder_tree::fault::ProjectFault;
 use std::alloc::{AllocError, Global};
 use std::fmt;
@@ -37,6 +38,8 @@ pub enum Status {
 pub enum InputFault {
     /// The interpretable text is refused at a line.
     Interp { line: u32 },
+    /// The HEX file is refused at a line.
+    Hex { line: u32, cause: HexCause },
     /// The target has no machine that runs the file.
     NoMachine,
     /// The interpretable text has other names than the project. The line is that of its `code`.
@@ -54,6 +57,10 @@ impl fmt::Display for InputFault {
     fn fmt<W: fmt::Write>(&self, f: &mut fmt::Formatter<W>) -> fmt::Result {
         match self {
             InputFault::Interp { line } => write!(f, "file line {line}"),
+            InputFault::Hex { line, cause } => {
+                let cause = hex_cause_name(*cause);
+                write!(f, "file line {line} {cause}")
+            }
             InputFault::NoMachine => f.write_str("file no machine"),
             InputFault::OtherProject { line } => write!(f, "file line {line} other project"),
             InputFault::Trace { line } => write!(f, "trace line {line}"),
@@ -198,5 +205,18 @@ fn cause_name(cause: StuckCause) -> &'static str
         StuckCause::Undefined => "Undefined",
         StuckCause::StackDepth => "StackDepth",
         StuckCause::PastFlash => "PastFlash",
+    }
+}
+
+/// The name of what is wrong with a line of a HEX file.
+fn hex_cause_name(cause: HexCause) -> &'static str
+    ensures { result.now ≡ hex_cause_name cause }
+{
+    match cause {
+        HexCause::BadRecord => "BadRecord",
+        HexCause::BadSum => "BadSum",
+        HexCause::Outside => "Outside",
+        HexCause::Overlap => "Overlap",
+        HexCause::NoEnd => "NoEnd",
     }
 }

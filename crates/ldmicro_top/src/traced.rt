@@ -8,6 +8,7 @@ ghost use Rattle.interp_code.specs.Machine.{IsRunnable};
 ghost use Rattle.ldmicro_top.specs.Steps.{lines_of_run, IsReady};
 
 use crate::duty::duty_shown;
+use avr_file::run::AvrRun;
 use int_code::op::IntProgram;
 use int_sim::Sim;
 use interp_code::machine::Interp;
@@ -26,6 +27,15 @@ pub struct TraceRun {
     /// How the duty of the PWM is shown.
     pub duty: DutyShown,
     pub trace: Trace,
+}
+
+/// A run of a file over a trace.
+#[derive(Drop)]
+pub enum FileRun {
+    /// Of an interpretable text.
+    Interp(TraceRun),
+    /// Of a HEX file, on the ATmega16.
+    Avr(AvrRun),
 }
 
 /// The run of the program to which a project was lowered, from its start.

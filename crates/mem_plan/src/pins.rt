@@ -21,6 +21,8 @@ pub fn pin_reading(l: &Legal, r: &Reading) -> PinReading
     ensures seen { pins_seen l.now.project l.now.names result ≡ r.now }
     ensures elsewhere { IsZeroElsewhere l.now.project l.now.names result }
     ensures converted { All (λ n. n ≤ ANALOG_NUMBER) result.adc }
+    ensures ports { length result.levels ≡ 5 }
+    ensures channels { length result.adc ≡ 8 }
 {
     let project = l.project();
     let names = l.names();
@@ -36,7 +38,8 @@ pub fn pin_reading(l: &Legal, r: &Reading) -> PinReading
 /// The levels at the pins of inputs, a byte for each port. The others are low.
 fn levels_of(project: &Project, names: &[Name], inputs: &[bool]) -> [u8; 5]
     requires { length inputs.now ≡ length names.now }
-    ensures { ShowsLevels project.now names.now inputs.now (length names.now) result }
+    ensures shown { ShowsLevels project.now names.now inputs.now (length names.now) result }
+    ensures ports { length result ≡ 5 }
 {
     let mut levels = [0; 5];
     for place in 0..names.len() {
@@ -55,6 +58,7 @@ fn numbers_of(project: &Project, names: &[Name], numbers: &[i16]) -> [u16; 8]
     requires converted { All IsConverted numbers.now }
     ensures shown { ShowsNumbers project.now names.now numbers.now (length names.now) result }
     ensures converted { All (λ n. n ≤ ANALOG_NUMBER) result }
+    ensures channels { length result ≡ 8 }
 {
     let mut adc = [0; 8];
     for place in 0..names.len() {

@@ -1,8 +1,8 @@
 //! The answer to each command.
 
+use crate::command_runs::{Failing, NONE, destination, run_words, told};
 use crate::held::Held;
 use crate::needs::needs;
-use crate::runs::{Failing, NONE, destination, run_words, told};
 use case_script::{Answers, Command, push_lines};
 use std::alloc::{AllocError, Global};
 

@@ -2,9 +2,9 @@
 #![tactic(auto)]
 
 mod answers;
+mod command_runs;
 mod held;
 mod needs;
-mod runs;
 
 use answers::Runs;
 use case_script::play;

@@ -74,7 +74,8 @@ impl Run<'_> {
 /// The bytes of a trace's EEPROM.
 pub fn eeprom(trace: &Trace) -> [u8; 512]
     requires { length trace.now.eeprom ≡ eeprom_size }
-    ensures { (k : ℕ) → slice_index_or result k 0 ≡ eeprom_of trace.now k }
+    ensures bytes { result ≡ trace.now.eeprom }
+    ensures each { (k : ℕ) → slice_index_or result k 0 ≡ eeprom_of trace.now k }
 {
     let mut bytes = [0xff; 512];
     bytes.copy_from_slice(trace.eeprom.as_slice());

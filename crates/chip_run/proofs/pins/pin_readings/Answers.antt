@@ -8,4 +8,9 @@ loop-step-preserved c =
     let s = c.step-item.result in
     let pins = c.pin_reading in
     pins_more l.project l.names steps c.loop-step.step-index s pins.result c.loop-step.pins c.push_times.new.pins c.loop-step-test.true c.step-item.is
-    pins.ensures.seen (record { elsewhere = pins.ensures.elsewhere; converted = pins.ensures.converted }) c.in_ok-push_times.ensures c.loop-step.invariant
+    pins.ensures.seen (record {
+      ports = pins.ensures.ports;
+      channels = pins.ensures.channels;
+      elsewhere = pins.ensures.elsewhere;
+      converted = pins.ensures.converted;
+    }) c.in_ok-push_times.ensures c.loop-step.invariant

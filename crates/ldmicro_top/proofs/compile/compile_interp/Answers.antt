@@ -4,12 +4,13 @@ use Rattle.ladder_lower.specs.Correct.{KeepsHistory}
 use Rattle.ladder_lower.specs.Outcome.{HasSizes}
 use Rattle.interp_code.specs.Program.{IsProgram, read_as}
 use Rattle.texts.specs.Lines.{lines}
+use Rattle.chip_tables.specs.Memory.{flash_size}
 use Rattle.ldmicro_top.specs.Report.{report}
 use Rattle.ldmicro_top.proofs.CarryLemmas.{carried}
 use Rattle.ldmicro_top.proofs.LengthLemmas.{text_short}
 use Rattle.ldmicro_top.proofs.NamedLemmas.{writable_names}
 use Rattle.ldmicro_top.proofs.RoomLemmas.{few}
-use Rattle.ldmicro_top.proofs.TargetLemmas.{machine_only, carries_on, cap_on, reports_on}
+use Rattle.ldmicro_top.proofs.TargetLemmas.{no_flash, carries_on, cap_on, reports_on}
 use Rattle.ldmicro_top.proofs.compile.compile_interp.Goals as goal
 
 pub write_interp-requires : goal.write_interp-requires
@@ -31,7 +32,7 @@ returns c =
     let program = c.in_ok-program.program in
     let code = c.in_ok-code.code in
     let room = few p.target names r.fits in
-    let interp = machine_only p.target r.within.target c.requires.machine in
+    let interp = c.requires.target in
     let l = rw (c.names-names.ensures, c.project-project.ensures) at c.in_ok-program.ensures in
     let texts = rw (c.names-names.ensures, c.project-project.ensures) at c.in_ok-code.ensures in
     let writable = writable_names p names program r.can.names r.can.named r.within.read r.within.cycle room.persistent l.formed l.numbers l.sizes l.room in
@@ -43,9 +44,10 @@ returns c =
           (rw texts.text (text_short p names program writable l.small room l.room l.numbers l.sizes r.can.fit))
           (subst (λ (n : Names). HasSizes n p program) r.can.names l.sizes)
           (subst (λ (n : Names). KeepsHistory n p program.ops) r.can.names l.keeps));
+      room = no_flash p (ap flash_size interp);
       cycles_few = cap_on p (length program.ops) interp l.cap;
       boot_few = omega arith;
-      report = reports_on p (length program.ops) 0 _ interp
+      report = reports_on p code (length program.ops) 0 _ interp
           (c.in_ok-report.ensures ∙ ap (report c.names-names.result.now) c.len.ensures
           ∙ ap (λ (n : Names). report n (length program.ops)) (c.names-names.ensures ∙ r.can.names));
     }

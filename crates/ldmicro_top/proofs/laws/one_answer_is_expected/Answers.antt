@@ -14,12 +14,18 @@ use Rattle.ld_text.proofs.ProjectLemmas.{one_project}
 use Rattle.interp_code.specs.declared.program.InterpProgram.{InterpProgram}
 use Rattle.ldmicro_top.specs.Verdict.{verdict}
 use Rattle.ldmicro_top.specs.Replayed.{SameNames}
+use Rattle.ldmicro_top.specs.Replays.{status_of_run}
+use Rattle.intel_hex.specs.Verdict.{hex_verdict}
+use Rattle.intel_hex.specs.declared.fault.HexFault.{HexFault}
+use Rattle.intel_hex.specs.declared.image.Image.{Image}
+use Rattle.avr_file.specs.Replays.{ReplaysImage}
+use Rattle.avr_file.proofs.OnceLemmas.{once}
 use Rattle.ldmicro_top.specs.declared.status.InputFault.TheVariants as input
 use Rattle.ldmicro_top.specs.declared.status.Status.{Status}
 use Rattle.ldmicro_top.specs.declared.status.Status.TheVariants as status
 use Rattle.ldmicro_top.specs.Command.{Command, Compile, Simulate, Replay, Other}
-use Rattle.ldmicro_top.specs.Expected.{IsRefusedFor, IsAccepted, ProjectAnswers, CompileAnswers, SimulateAnswers, ReplayAnswers, HeldAnswers, TraceAnswers, AnswersOf, CodeAnswers, FileAnswersOn, RunAnswers, Expected}
-use Rattle.ldmicro_top.proofs.TargetLemmas.{replays_interp}
+use Rattle.ldmicro_top.specs.Expected.{IsRefusedFor, IsAccepted, ProjectAnswers, CompileAnswers, SimulateAnswers, ReplayAnswers, HeldAnswers, TraceAnswers, AnswersOf, CodeAnswers, HexAnswersOf, FileAnswersOn, RunAnswers, Expected}
+use Rattle.ldmicro_top.proofs.TargetLemmas.{RanOn, OnInterp, OnAvr, ran_on}
 use Rattle.ldmicro_top.proofs.CodeLemmas.{one_refusal, code_stands, one_code}
 use Rattle.ldmicro_top.proofs.laws.one_answer_is_expected.Goals as goal
 
@@ -82,15 +88,29 @@ of_code n go_on one text a b (inl h) (inr k) = absurd (code_stands text h.0 k.0 
 of_code n go_on one text a b (inr h) (inl k) = absurd (code_stands text k.0 h.0 k.1 h.1)
 of_code n go_on one text a b (inr h) (inr k) = h.2 ∙ ap (λ line. status.BadInput (input.Interp line)) (one_refusal text h.0 k.0 h.1 k.1) ∙ sym k.2
 
+of_hex : (go_on : Status → Type 0) → IsSingle go_on → (v : Result Image HexFault) → IsSingle (HexAnswersOf go_on v)
+of_hex go_on one (Ok image) a b h k = one a b h k
+of_hex go_on one (Err fault) a b h k = h ∙ sym k
+
 of_file : (t : Target) (n : Names) (go_on : Status → Type 0) → IsSingle go_on → (file : List ℕ) → IsSingle (FileAnswersOn t n go_on file)
 of_file F628 n go_on one file a b h k = absurd h
 of_file F877 n go_on one file a b h k = absurd h
-of_file Mega16 n go_on one file a b h k = absurd h
+of_file Mega16 n go_on one file a b h k = of_hex go_on one (hex_verdict Mega16 file) a b h k
 of_file Interp n go_on one file a b h k = of_code n go_on one file a b h k
 of_file AnsiC n go_on one file a b h k = h ∙ sym k
 
 of_run : (p : Project) (file : List ℕ) (t : Trace) → IsSingle (RunAnswers p file t)
-of_run p file t a b h k = (replays_interp p file t h.0 a h.1).1.ends ∙ sym (replays_interp p file t k.0 b k.1).1.ends
+of_run p file t a b h k = by (ran_on p file t h.0 a h.1) (ran_on p file t k.0 b k.1)
+  where
+    by : RanOn p file t h.0 a → RanOn p file t k.0 b → a ≡ b
+    by (OnInterp e r) (OnInterp f s) = r.ends ∙ sym s.ends
+    by (OnAvr e r) (OnAvr f s) =
+        let both : Ok r.image ≡ Ok s.image = sym r.read ∙ s.read in
+        let same : r.image ≡ s.image = cc in
+        let runs = once p s.image t h.0 k.0 r.end s.end (subst (λ (i : Image). ReplaysImage p i t h.0 r.end) same r.runs) s.runs in
+        r.ends ∙ ap status_of_run runs.1 ∙ sym s.ends
+    by (OnInterp e r) (OnAvr f s) = let clash : Interp ≡ Mega16 = sym e ∙ f in absurd cc
+    by (OnAvr e r) (OnInterp f s) = let clash : Mega16 ≡ Interp = sym e ∙ f in absurd cc
 
 of_simulation : (held : Held) (trace : List ℕ) (p : Project) → IsSingle (SimulateAnswers held trace p)
 of_simulation held trace p =

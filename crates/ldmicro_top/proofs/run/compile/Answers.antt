@@ -2,11 +2,10 @@ use Rattle.std.proofs.Common.{arith, List, ℕ, refl, subst}
 use Rattle.std.specs.String.{string_bytes}
 use Rattle.ldmicro_top.specs.declared.status.Status.TheVariants.{Ok}
 use Rattle.ldmicro_top.specs.Command.{Compile}
-use Rattle.ldmicro_top.specs.Expected.{Expected, HeldAnswers, ProjectAnswers}
 use Rattle.ldmicro_top.specs.Steps.{Told}
 use Rattle.ldmicro_top.specs.World.{world}
-use Rattle.ldmicro_top.proofs.GoodLemmas.{compiled_good, refused_source}
-use Rattle.ldmicro_top.proofs.RanLemmas.{Later, declined, declined_for, unwritten, reported, from_middle}
+use Rattle.ldmicro_top.proofs.GoodLemmas.{compiled_good}
+use Rattle.ldmicro_top.proofs.RanLemmas.{Later, declined, unwritten, reported, from_middle}
 use Rattle.ldmicro_top.proofs.run.compile.Goals as goal
 
 pub returns-in-Err : goal.returns-in-Err
@@ -18,10 +17,7 @@ returns-in-Err g c =
     let old = world F O c.args.files.now c.args.out.now in
     let new = world F O c.take_compiled.new.files c.tell.new.out in
     let later : Later old new = record { reads = only.reads; absences = only.absences; writes = omega (arith, only.writes); faults = c.tell.ensures.later } in
-    declined F.tells O.tells command old new later c.in-Err.status c.tell.result tt
-    (declined_for F.tells (HeldAnswers (ProjectAnswers (λ p a. ⊥)) (old.held c.args.source.now)) (Expected command old.held) old.counts new.counts
-    c.in-Err.status (refused_source c.args.source.now c.args.dest.now old.held) c.in-Err.ensures.declined)
-    only.same c.tell.ensures
+    declined F.tells O.tells command old new later c.in-Err.status c.tell.result tt c.in-Err.ensures.declined only.same c.tell.ensures
 
 pub returns-in-Ok-write_dest : goal.returns-in-Ok-write_dest
 returns-in-Ok-write_dest g c =

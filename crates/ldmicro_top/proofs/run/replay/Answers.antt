@@ -1,10 +1,9 @@
-use Rattle.std.proofs.Common.{arith, []}
+use Rattle.std.proofs.Common.{inl, arith, []}
 use Rattle.ldmicro_top.specs.Command.{Command, Replay}
-use Rattle.ldmicro_top.specs.declared.status.Status.TheVariants.{Ok}
 use Rattle.ldmicro_top.specs.World.{world}
-use Rattle.ldmicro_top.specs.Steps.{lines_of_run}
+use Rattle.ldmicro_top.specs.Steps.{lines_of_file, end_of_file}
 use Rattle.ldmicro_top.proofs.GoodLemmas.{replayed_good}
-use Rattle.ldmicro_top.proofs.RanLemmas.{Later, declined, reported}
+use Rattle.ldmicro_top.proofs.RanLemmas.{Later, declined, ended, is_end_of_file}
 use Rattle.ldmicro_top.proofs.run.replay.Goals as goal
 
 pub returns-in-Err : goal.returns-in-Err
@@ -24,10 +23,11 @@ returns-in-Ok g c =
     let O = g.O.Out in
     let only = c.take_replay.ensures.only in
     let command : Command = Replay c.args.source.now c.args.file.now c.args.trace.now in
-    let printed = lines_of_run c.in-Ok.run' in
+    let printed = lines_of_file c.in-Ok.run' in
+    let ending = end_of_file c.in-Ok.run' in
     let old = world F O c.args.files.now c.args.out.now in
-    let new = world F O c.take_replay.new.files c.show.new.out in
-    let later : Later old new = record { reads = only.reads; absences = only.absences; writes = omega (arith, only.writes); faults = c.show.ensures.later } in
-    reported F.tells O.tells command old new later [] printed c.show.result
-    (λ y. replayed_good c.args.source.now c.args.file.now c.args.trace.now old.held printed Ok (c.in-Ok.ensures.replayed y))
-    c.in-Ok.ensures.replayed only.same c.show.ensures
+    let new = world F O c.take_replay.new.files c.show_file.new.out in
+    let later : Later old new = record { reads = only.reads; absences = only.absences; writes = omega (arith, only.writes); faults = c.show_file.ensures.later } in
+    ended F.tells O.tells command old new later [] printed ending c.show_file.result (is_end_of_file c.in-Ok.run')
+    (λ y. replayed_good c.args.source.now c.args.file.now c.args.trace.now old.held printed ending (c.in-Ok.ensures.replayed y))
+    c.in-Ok.ensures.replayed only.same (λ y. inl (only.same y)) c.show_file.ensures

@@ -10,4 +10,4 @@ returns-clause-lines c =
     rw (c.begun.ensures, c.into_sim.ensures)
     (lines_from_start (duty_shown p) c.args.legal.names c.args.said.program (record { program = m.program; state = m.state }) c.args.trace
     (λ k. slice_index_or c.eeprom.result k 0)
-    c.in_ok-machine.ensures.program c.in_ok-machine.ensures.start c.eeprom.ensures)
+    c.in_ok-machine.ensures.program c.in_ok-machine.ensures.start c.eeprom.ensures.each)

@@ -12,7 +12,7 @@ module _ (c : goal.After-result-1) where
   pins = subst (λ (n : Names). HavePins c.args.l.now.project n) (sym c.args.l.now.named) (have_pins c.args.l.now.project c.requires.chip c.args.l.now.rules)
 
   levels : ShowsLevels c.args.l.now.project c.args.l.now.names.inputs c.args.r.now.inputs (length c.args.l.now.names.inputs) c.levels_of.result
-  levels = rw (c.as_slice.ensures, c.as_slice-2.ensures, c.names-names.ensures, c.project-project.ensures) at c.levels_of.ensures
+  levels = rw (c.as_slice.ensures, c.as_slice-2.ensures, c.names-names.ensures, c.project-project.ensures) at c.levels_of.ensures.shown
 
   numbers : ShowsNumbers c.args.l.now.project c.args.l.now.names.analog c.args.r.now.analog (length c.args.l.now.names.analog) c.numbers_of.result
   numbers = rw (c.as_slice-3.ensures, c.as_slice-4.ensures, c.names-names.ensures, c.project-project.ensures) at c.numbers_of.ensures.shown

@@ -1,0 +1,4 @@
+pub mod TraceLemmas
+pub mod NumberLemmas
+pub mod OnceLemmas
+pub mod AgreeLemmas
