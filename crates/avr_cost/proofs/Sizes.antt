@@ -234,7 +234,8 @@ least_four false = omega arith
 copy_byte_size : (a b : ℕ) (from : BitSource) (inverted : Bool) →
     size_in (copy_byte a b from inverted) ≤ fetch_words (reads_scratch Mega16 from) + (4 + cond (is_scratch Mega16 a) 2 4)
 copy_byte_size a b from inverted =
-    let tail : List Piece = Loads 16 a ∷ Plain (insn.Ldi 17 (2 ^ b)) ∷ Mixes 16 17 true ∷ Skips from (not inverted) ∷ Plain (insn.Eor 16 17) ∷ Stores a 16 ∷ [] in
+    let tail : List Piece =
+    Loads 16 a ∷ Plain (insn.Ldi 17 (2 ^ b)) ∷ Mixes 16 17 true ∷ Skips from (not inverted) ∷ Plain (insn.Eor 16 17) ∷ Stores a 16 ∷ [] in
     let all = size_append (fetch_code from) tail in
     let fetch = fetch_size from in
     let skip = skips_one from (not inverted) in
@@ -324,7 +325,8 @@ negate_size : (to sign : ℕ) → size_in (negate_code to sign) ≤ 16
 negate_size to sign =
     let c = loads_two 18 sign in let d = loads_two 16 to in let e = loads_two 17 (to + 1) in let f = stored_size to in
     either_size (nat_lt to IO_FIRST && nat_lt sign IO_FIRST)
-    (Plain (insn.Sbrs sign 7) ∷ Plain (insn.Rjmp 4) ∷ Plain (insn.Com to) ∷ Plain (insn.Com (to + 1)) ∷ Plain (insn.Adc to 1) ∷ Plain (insn.Adc (to + 1) 1) ∷ [])
+    (Plain (insn.Sbrs sign 7) ∷ Plain (insn.Rjmp 4) ∷ Plain (insn.Com to) ∷ Plain (insn.Com (to + 1)) ∷ Plain (insn.Adc to 1)
+    ∷ Plain (insn.Adc (to + 1) 1) ∷ [])
     (Loads 18 sign ∷ Loads 16 to ∷ Loads 17 (to + 1) ∷ Plain (insn.Sbrs 18 7) ∷ Plain (insn.Rjmp 4) ∷ Plain (insn.Com 16) ∷ Plain (insn.Com 17)
     ∷ Plain (insn.Adc 16 1) ∷ Plain (insn.Adc 17 1) ∷ word_stored to) 16 (omega arith) (omega (arith, c, d, e, f))
 

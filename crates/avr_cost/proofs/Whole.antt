@@ -153,7 +153,8 @@ sums_within_kinds o board code target uses =
     let a = sum_flat kind_words (λ (p : Paced). kind_of Mega16 p.prim) code in
     let b = sum_flat kind_cycles (λ (p : Paced). repeated p.turns (kind_of Mega16 p.prim)) code in
     let c = sum_flat kind_cycles (λ (p : Paced). repeated p.boot (kind_of Mega16 p.prim)) code in
-    let d = summed o board target (λ p. word_count board p.prim) (λ p. sum_by kind_words (kind_of Mega16 p.prim)) (λ q h. prim_words o board target q.prim h) code uses in
+    let d = summed o board target (λ p. word_count board p.prim) (λ p. sum_by kind_words (kind_of Mega16 p.prim))
+    (λ q h. prim_words o board target q.prim h) code uses in
     let e = summed o board target (λ p. cycle_count board p.prim * p.turns) (λ p. sum_by kind_cycles (repeated p.turns (kind_of Mega16 p.prim)))
     (λ q h. so_often o board target q.turns q.prim h) code uses in
     let f = summed o board target (λ p. cycle_count board p.prim * p.boot) (λ p. sum_by kind_cycles (repeated p.boot (kind_of Mega16 p.prim)))

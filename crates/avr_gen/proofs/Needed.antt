@@ -29,7 +29,8 @@ linked_is_within_need p o settings program target kept linked can =
     subst (λ (t : Target). IsListed t (starts_in program.starts) (routines_in program.ops) (operations o program) code) linked.target of_list in
     let table : KeepsTable p.target kind_words kind_cycles = subst (λ (t : Target). KeepsTable t kind_words kind_cycles) (sym target) keeps_table in
     let within = listed_is_within_table p o program kind_words kind_cycles code (ap is_chip target) kept table linked.lowered linked.sizes list in
-    let a : sum_by kind_words (kinds Mega16 code) ≤ word_need p = subst (λ (t : Target). sum_by kind_words (kinds t code) ≤ word_need p) target within.words_few in
+    let a : sum_by kind_words (kinds Mega16 code) ≤ word_need p =
+    subst (λ (t : Target). sum_by kind_words (kinds t code) ≤ word_need p) target within.words_few in
     let b : sum_by kind_cycles (turn_kinds Mega16 code) ≤ cycle_cap p =
     subst (λ (t : Target). sum_by kind_cycles (turn_kinds t code) ≤ cycle_cap p) target within.cycles_few in
     let c : sum_by kind_cycles (boot_kinds Mega16 code) ≤ boot_cap p =

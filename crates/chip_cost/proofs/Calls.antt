@@ -111,7 +111,8 @@ off_none true e = absurd (cc)
 off_none false e = refl
 
 -- where no element counts it, none is within the public list
-none_called : (is : MathHow → Bool) (ls : List leaf.Leaf) → list_any (λ l. calls is l.kind) ls ≡ false → sum_by (λ l. sum_by (math_weight is) (element_kinds l.kind)) ls ≡ 0
+none_called : (is : MathHow → Bool) (ls : List leaf.Leaf) → list_any (λ l. calls is l.kind) ls ≡ false →
+    sum_by (λ l. sum_by (math_weight is) (element_kinds l.kind)) ls ≡ 0
 none_called is [] e = refl
 none_called is (l ∷ ls) e =
     let both = or_parts (calls is l.kind) (list_any (λ l. calls is l.kind) ls) e in
@@ -146,7 +147,8 @@ module _ (passes : IntOp → Bool) (g : Kind → ℕ) (kept : ℕ) (one : (x : I
       let l = off_none (passes z) h in
       omega (arith, a, b, c, d, i, j, l, is)
 
-  single : (x : IntOp) (ops : List IntOp) → count_by passes ops ≤ sum_by g (kinds kept ops) → count_by passes (x ∷ ops) ≤ sum_by g (kind_of kept x ∷ kinds kept ops)
+  single : (x : IntOp) (ops : List IntOp) → count_by passes ops ≤ sum_by g (kinds kept ops) →
+      count_by passes (x ∷ ops) ≤ sum_by g (kind_of kept x ∷ kinds kept ops)
   single x ops is =
       let a = sum_by-cons (λ (q : IntOp). cond (passes q) 1 0) x ops in
       let d = sum_by-cons g (kind_of kept x) (kinds kept ops) in
@@ -155,10 +157,14 @@ module _ (passes : IntOp → Bool) (g : Kind → ℕ) (kept : ℕ) (one : (x : I
 
   pub passing : (ops : List IntOp) → count_by passes ops ≤ sum_by g (kinds kept ops)
   passing [] = omega arith
-  passing (op.Ifs s ∷ op.Set b ∷ op.Fi ∷ ops) = three (op.Ifs s) (op.Set b) op.Fi ops (kind.Guarded (reads_wire kept s) (is_wire kept b)) (ifs s) (put b) fi (passing ops)
-  passing (op.Ifs s ∷ op.Clr b ∷ op.Fi ∷ ops) = three (op.Ifs s) (op.Clr b) op.Fi ops (kind.Guarded (reads_wire kept s) (is_wire kept b)) (ifs s) (clear b) fi (passing ops)
-  passing (op.Ifc s ∷ op.Set b ∷ op.Fi ∷ ops) = three (op.Ifc s) (op.Set b) op.Fi ops (kind.Guarded (reads_wire kept s) (is_wire kept b)) (ifc s) (put b) fi (passing ops)
-  passing (op.Ifc s ∷ op.Clr b ∷ op.Fi ∷ ops) = three (op.Ifc s) (op.Clr b) op.Fi ops (kind.Guarded (reads_wire kept s) (is_wire kept b)) (ifc s) (clear b) fi (passing ops)
+  passing (op.Ifs s ∷ op.Set b ∷ op.Fi ∷ ops) =
+      three (op.Ifs s) (op.Set b) op.Fi ops (kind.Guarded (reads_wire kept s) (is_wire kept b)) (ifs s) (put b) fi (passing ops)
+  passing (op.Ifs s ∷ op.Clr b ∷ op.Fi ∷ ops) =
+      three (op.Ifs s) (op.Clr b) op.Fi ops (kind.Guarded (reads_wire kept s) (is_wire kept b)) (ifs s) (clear b) fi (passing ops)
+  passing (op.Ifc s ∷ op.Set b ∷ op.Fi ∷ ops) =
+      three (op.Ifc s) (op.Set b) op.Fi ops (kind.Guarded (reads_wire kept s) (is_wire kept b)) (ifc s) (put b) fi (passing ops)
+  passing (op.Ifc s ∷ op.Clr b ∷ op.Fi ∷ ops) =
+      three (op.Ifc s) (op.Clr b) op.Fi ops (kind.Guarded (reads_wire kept s) (is_wire kept b)) (ifc s) (clear b) fi (passing ops)
   passing (x ∷ ops) = single x ops (passing ops)
 
 at_most : (b : Bool) → cond b 1 0 ≤ 1
@@ -173,7 +179,8 @@ quotient_one : (kept : ℕ) (x : IntOp) → cond (calls_quotient x) 1 0 ≤ math
 quotient_one kept (op.Div v w u) = at_most (calls_quotient (op.Div v w u))
 quotient_one kept _ = omega arith
 
-pub no_product : (kept : ℕ) (ops : List IntOp) (gs : List Rung) → IsWithin (kinds kept ops) (allowed gs) → list_any (λ l. calls is_mul l.kind) (all_leaves gs) ≡ false →
+pub no_product : (kept : ℕ) (ops : List IntOp) (gs : List Rung) → IsWithin (kinds kept ops) (allowed gs) →
+    list_any (λ l. calls is_mul l.kind) (all_leaves gs) ≡ false →
     count_by calls_product ops ≡ 0
 no_product kept ops gs within e =
     let a = passing calls_product (math_weight is_mul) kept (product_one kept) (λ s. refl) (λ s. refl) (λ b. refl) (λ b. refl) refl ops in
@@ -181,7 +188,8 @@ no_product kept ops gs within e =
     let c = none_allowed is_mul gs e in
     omega (arith, a, b, c)
 
-pub no_quotient : (kept : ℕ) (ops : List IntOp) (gs : List Rung) → IsWithin (kinds kept ops) (allowed gs) → list_any (λ l. calls is_div l.kind) (all_leaves gs) ≡ false →
+pub no_quotient : (kept : ℕ) (ops : List IntOp) (gs : List Rung) → IsWithin (kinds kept ops) (allowed gs) →
+    list_any (λ l. calls is_div l.kind) (all_leaves gs) ≡ false →
     count_by calls_quotient ops ≡ 0
 no_quotient kept ops gs within e =
     let a = passing calls_quotient (math_weight is_div) kept (quotient_one kept) (λ s. refl) (λ s. refl) (λ b. refl) (λ b. refl) refl ops in

@@ -188,9 +188,11 @@ module _ (p : Project) (program : IntProgram) (words cycles : PrimKind → ℕ) 
       let f = code_weight words in
       let products = routine_if (count_by calls_product program.ops) list.Multiply in
       let quotients = routine_if (count_by calls_quotient program.ops) list.Divide in
-      let a = routine_few f list.Multiply (count_by calls_product program.ops) (fixed Words p.target cost.MulFeature) (list_any (λ l. uses Products l.kind) Elements)
+      let a = routine_few f list.Multiply (count_by calls_product program.ops) (fixed Words p.target cost.MulFeature)
+      (list_any (λ l. uses Products l.kind) Elements)
       (λ e. no_product program.kept_bits program.ops p.rungs lowered.within e) table.products in
-      let b = routine_few f list.Divide (count_by calls_quotient program.ops) (fixed Words p.target cost.DivFeature) (list_any (λ l. uses Quotients l.kind) Elements)
+      let b = routine_few f list.Divide (count_by calls_quotient program.ops) (fixed Words p.target cost.DivFeature)
+      (list_any (λ l. uses Quotients l.kind) Elements)
       (λ e. no_quotient program.kept_bits program.ops p.rungs lowered.within e) table.quotients in
       let c = sum_mapped f routine_entry (products ++ quotients) in
       let d = sum_by-append (λ r. f (routine_entry r)) products quotients in
